@@ -1,0 +1,17 @@
+-- What an item that the reader hands out stands for.
+use Prim.Native.Nat.{ℕ}
+use Rattle.proof.specs.declared.item.Item.{Item}
+use Rattle.proof.specs.declared.item.Item.the-variants.{Operation, Attestation}
+use Rattle.proof.specs.declared.item.Content.{Content}
+use Rattle.proof.specs.declared.item.Content.the-variants.{Pending, Bitcoin, Unknown}
+use Rattle.format.specs.Attestations.{Att, pending, bitcoin, unknown}
+use Rattle.format.specs.Items.{Piece, operation, attestation}
+
+abbrev pub attested : Content → Att
+attested (Pending address) = pending (address .now)
+attested (Bitcoin height) = bitcoin height
+attested (Unknown tag payload) = unknown (tag .now) (payload .now)
+
+abbrev pub piece : Item → Piece
+piece (Operation kind argument offset first) = operation kind (argument .now) offset first
+piece (Attestation content payload offset first) = attestation (attested content) (payload .now) offset first
