@@ -1,1 +1,2 @@
 pub mod NumberSteps
+pub mod ByteSteps

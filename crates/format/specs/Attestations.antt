@@ -13,10 +13,10 @@ pub data Att : Type 0 where
   bitcoin : ℕ → Att
   unknown : List ℕ → List ℕ → Att
 
-unfoldable pub pendingTag : List ℕ
+abbrev pub pendingTag : List ℕ
 pendingTag = 0x83 ∷ 0xdf ∷ 0xe3 ∷ 0x0d ∷ 0x2e ∷ 0xf9 ∷ 0x0c ∷ 0x8e ∷ []
 
-unfoldable pub bitcoinTag : List ℕ
+abbrev pub bitcoinTag : List ℕ
 bitcoinTag = 0x05 ∷ 0x88 ∷ 0x96 ∷ 0x0d ∷ 0x73 ∷ 0xd7 ∷ 0x19 ∷ 0x01 ∷ []
 
 -- the longest payload and the longest address

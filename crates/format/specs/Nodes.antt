@@ -1,8 +1,8 @@
 -- A node: items with ff before each, then a last one without; and its claims.
-use mathlib.Core.Bool.{Bool, true, false, cond}
+use mathlib.Core.Bool.{Bool, true, false, cond, _&&_}
 use mathlib.Core.List.{List, [], _∷_, _++_, map}
 use Prim.Native.Nat.{ℕ, zero, suc, _+_, _-_}
-use lib.Dec.{eqb}
+use lib.Dec.{ltb, eqb}
 use lib.ListN.{length, getD}
 use Rattle.format.specs.declared.Kind.{Kind}
 use Rattle.format.specs.Outcome.{Outcome, got, fault, then}
@@ -23,8 +23,8 @@ abbrev pub under : Op → Claim → Claim
 under o c = claim (o ∷ c .path) (c .attestation)
 
 -- whether another item follows the next one
-unfoldable pub moreAt : List ℕ → ℕ → Outcome Bool
-moreAt file at = cond (eqb (getD file at 0) 0xff) (got true (at + 1)) (got false at)
+abbrev pub moreAt : List ℕ → ℕ → Outcome Bool
+moreAt file at = cond (ltb at (length file) && eqb (getD file at 0) 0xff) (got true (at + 1)) (got false at)
 
 -- how the nodes below are read: under depth operations, over a message of size bytes
 abbrev pub Reading : Type 0

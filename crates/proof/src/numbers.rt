@@ -24,6 +24,7 @@ impl<'a> Reader<'a> {
     // The next n bytes, as a part of the file.
     pub fn bytes(&mut self, n: usize) -> Result<&'a [u8], Fault>
         ensures long { λ r. ⌜ made r (λ s. length (now s) ≡ n) ⌝ }
+        ensures behind { λ r. ⌜ made r (λ s. length (now s) ≤ now (self .exit) .at) ⌝ }
         ensures same { λ _. ⌜ now (now (self .exit) .file) ≡ now (now (self .entry) .file) ⌝ }
         ensures reads { λ r. ⌜ outcome (λ s. now s) r (now (self .exit) .at) ≡ bytesAt n (now (now (self .entry) .file)) (now (self .entry) .at) ⌝ }
     {
@@ -79,6 +80,7 @@ impl<'a> Reader<'a> {
     // A length from least to most, then that many bytes.
     pub fn block(&mut self, least: u32, most: u32) -> Result<&'a [u8], Fault>
         ensures long { λ r. ⌜ made r (λ s. length (now s) ≤ most) ⌝ }
+        ensures behind { λ r. ⌜ made r (λ s. length (now s) ≤ now (self .exit) .at) ⌝ }
         ensures same { λ _. ⌜ now (now (self .exit) .file) ≡ now (now (self .entry) .file) ⌝ }
         ensures reads { λ r. ⌜ outcome (λ s. now s) r (now (self .exit) .at) ≡ blockAt least most (now (now (self .entry) .file)) (now (self .entry) .at) ⌝ }
     {
