@@ -1,2 +1,4 @@
 pub mod NumberSteps
 pub mod ByteSteps
+pub mod Progress
+pub mod NodeLaw
