@@ -40,7 +40,7 @@ digestAt file at =
 abbrev pub versionAt : List ℕ → ℕ → Outcome Head
 versionAt file at = then (numberAt file at) (λ version next. cond (eqb version 1) (digestAt file next) (fault 4 at))
 
-unfoldable pub headAt : List ℕ → Outcome Head
+abbrev pub headAt : List ℕ → Outcome Head
 headAt file = then (markAt mark file 0) (λ _ at. versionAt file at)
 
 -- what a file says: a digest and claims

@@ -5,3 +5,4 @@ pub mod Attestations
 pub mod Items
 pub mod Nodes
 pub mod Files
+pub mod Walks
