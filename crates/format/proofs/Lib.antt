@@ -2,3 +2,5 @@ pub mod NumberSteps
 pub mod ByteSteps
 pub mod Progress
 pub mod NodeLaw
+pub mod Chains
+pub mod StepsLaw

@@ -25,7 +25,7 @@ item-past depth size file at h = rw (byte-past file at h)
 pub more-past : (file : List ℕ) (at : ℕ) → length file ≤ at → moreAt file at ≡ got false at
 more-past file at h = cond-false _ _ _ (and-left (ltb at (length file)) _ (le-ltb at (length file) h))
 
-node-past : (f : Reading) (depth size : ℕ) (file : List ℕ) (at : ℕ) → length file ≤ at → nodeBy f depth size file at ≡ fault 2 (length file)
+pub node-past : (f : Reading) (depth size : ℕ) (file : List ℕ) (at : ℕ) → length file ≤ at → nodeBy f depth size file at ≡ fault 2 (length file)
 node-past f depth size file at h = rw (more-past file at h, item-past depth size file at h)
 
 -- offsets
@@ -61,7 +61,7 @@ steps-from (suc k) depth size file at =
   from-weaker (at + 1) at _ (omega arith) (node-by-from (nodeFrom k) depth size file at (λ d s a. steps-from k d s file a))
 
 -- equal readings of the nodes below, from here on, give equal nodes
-then-cong : {A B : Type 0} (m : ℕ) (o : Outcome A) (f g : A → ℕ → Outcome B) → From m o
+pub then-cong : {A B : Type 0} (m : ℕ) (o : Outcome A) (f g : A → ℕ → Outcome B) → From m o
   → ((x : A) (n : ℕ) → m ≤ n → f x n ≡ g x n) → then o f ≡ then o g
 then-cong m (got x n) f g p h = h x n p
 then-cong m (fault c o) f g p h = refl
