@@ -4,3 +4,4 @@ pub mod Progress
 pub mod NodeLaw
 pub mod Chains
 pub mod StepsLaw
+pub mod WalkLaw
