@@ -117,3 +117,93 @@ only-above : (place : Place) (path other : List Op) (file : List ℕ) (at : ℕ)
   → from path place file at ≡ from other place file at
 unfolding stepsAt
 only-above place path other file at e = only-above′ (length file - at) place path other file at e
+
+-- ---- a walk through a node gives its claims, and goes on behind it
+-- the claims of a node below path, and those behind it
+abbrev onward : List Op → List Level → List ℕ → List Claim → ℕ → Outcome (List Claim)
+onward path levels file cs mid = ahead (map (beneath (take (length levels) path)) cs) (from path (risen levels) file mid)
+
+abbrev Through : List ℕ → List Level → ℕ → ℕ → List Op → Type 0
+Through file levels size at path = from path (inside levels size) file at ≡ then (nodeAt (length levels) size file at) (onward path levels file)
+
+walk-inside : (path : List Op) (levels : List Level) (size : ℕ) (file : List ℕ) (at : ℕ)
+  → from path (inside levels size) file at
+    ≡ then (moreAt file at) (λ more next. then (itemAt (length levels) size file next) (λ p end.
+        ahead (claimsHere path (length levels) p) (from (pathAfter path (length levels) p) (after more p levels size) file end)))
+walk-inside path levels size file at =
+  ap (gives path) (steps-law (inside levels size) file at) ∙ stepped path levels size file at (λ p a. stepsAt p file a)
+
+-- the rest of a node behind a branch with these claims
+abbrev restOf : Bool → ℕ → ℕ → List ℕ → List Claim → ℕ → Outcome (List Claim)
+restOf more depth size file cs next = cond more (ahead cs (nodeAt depth size file next)) (got cs next)
+
+node-inside : (path : List Op) (levels : List Level) (size : ℕ) (file : List ℕ) (at : ℕ)
+  → then (nodeAt (length levels) size file at) (onward path levels file)
+    ≡ then (moreAt file at) (λ more next. then (itemAt (length levels) size file next) (λ p end.
+        then (belowBy nodeAt p (length levels) size file end) (λ cs n. then (restOf more (length levels) size file cs n) (onward path levels file))))
+node-inside path levels size file at =
+  ap (λ z. then z (onward path levels file)) (node-law (length levels) size file at)
+  ∙ (then-then (moreAt file at) _ _
+  ∙ then-same (moreAt file at) _ _ (λ more next.
+      then-then (branchBy nodeAt (length levels) size file next) _ _
+      ∙ then-then (itemAt (length levels) size file next) _ _))
+
+-- claims before those of a node
+ahead-onward : (path : List Op) (levels : List Level) (file : List ℕ) (xs cs ds : List Claim)
+  → map (beneath (take (length levels) path)) cs ≡ xs ++ map (beneath (take (length levels) path)) ds → (mid : ℕ)
+  → ahead xs (onward path levels file ds mid) ≡ onward path levels file cs mid
+ahead-onward path levels file xs cs ds e mid =
+  ahead-ahead xs (map (beneath (take (length levels) path)) ds) (from path (risen levels) file mid)
+  ∙ ap (λ z. ahead z (from path (risen levels) file mid)) (sym e)
+
+-- more of the node follows a branch with claims cs, which the walk has given as xs
+more-follows : (path : List Op) (levels : List Level) (size : ℕ) (file : List ℕ) (next : ℕ) (xs cs : List Claim)
+  → ((ds : List Claim) → map (beneath (take (length levels) path)) (cs ++ ds) ≡ xs ++ map (beneath (take (length levels) path)) ds)
+  → Through file levels size next path
+  → ahead xs (from path (inside levels size) file next) ≡ then (restOf true (length levels) size file cs next) (onward path levels file)
+more-follows path levels size file next xs cs e h =
+  ap (ahead xs) h
+  ∙ (then-then (nodeAt (length levels) size file next) (onward path levels file) (λ ds last. got (xs ++ ds) last)
+  ∙ (then-same (nodeAt (length levels) size file next) _ _ (λ ds mid. ahead-onward path levels file xs (cs ++ ds) ds (e ds) mid)
+  ∙ sym (then-then (nodeAt (length levels) size file next) (λ ds last. got (cs ++ ds) last) (onward path levels file))))
+
+bare : (path : List Op) (a : Att) → beneath path (claim [] a) ≡ claim path a
+bare path a = ap (λ z. claim z a) (append-nil path)
+
+through-under : (path : List Op) (o : Op) (cs : List Claim) → map (beneath path) (map (under o) cs) ≡ map (beneath (path ++ (o ∷ []))) cs
+through-under path o [] = refl
+through-under path o (c ∷ cs) =
+  ap (λ z. claim z (c .attestation) ∷ map (beneath path) (map (under o) cs)) (sym (append-assoc path (o ∷ []) (c .path)))
+  ∙ ap (λ z. beneath (path ++ (o ∷ [])) c ∷ z) (through-under path o cs)
+
+attestation-passed : (path : List Op) (levels : List Level) (size : ℕ) (file : List ℕ) (more : Bool) (a : Att) (end : ℕ)
+  → Through file levels size end path
+  → ahead (claim (take (length levels) path) a ∷ []) (from path (cond more (inside levels size) (risen levels)) file end)
+    ≡ then (restOf more (length levels) size file (claim [] a ∷ []) end) (onward path levels file)
+attestation-passed path levels size file true a end h =
+  more-follows path levels size file end (claim (take (length levels) path) a ∷ []) (claim [] a ∷ [])
+    (λ ds. ap (λ z. z ∷ map (beneath (take (length levels) path)) ds) (bare (take (length levels) path) a)) h
+attestation-passed path levels size file false a end h =
+  ap (λ z. ahead (z ∷ []) (from path (risen levels) file end)) (sym (bare (take (length levels) path) a))
+
+-- behind the node below an operation: the levels above are those of before
+operation-passed : (path : List Op) (levels : List Level) (size : ℕ) (file : List ℕ) (more : Bool) (o : Op) (cs : List Claim) (mid : ℕ)
+  → length levels ≤ length path → Through file levels size mid path
+  → ahead (map (beneath (take (length levels) path ++ (o ∷ []))) cs) (from (take (length levels) path ++ (o ∷ [])) (cond more (inside levels size) (risen levels)) file mid)
+    ≡ then (restOf more (length levels) size file (map (under o) cs) mid) (onward path levels file)
+operation-passed path levels size file more o cs mid l h = by-more more
+  where
+    above : List Op
+    above = take (length levels) path
+    kept : (m : ℕ) → m ≤ length levels → take m (above ++ (o ∷ [])) ≡ take m path
+    kept m d = let n : length above ≡ length levels = length-take-le (length levels) path l in
+      take-append-le m above (o ∷ []) (omega arith) ∙ take-take m (length levels) path d
+    by-more : (b : Bool) → ahead (map (beneath (above ++ (o ∷ []))) cs) (from (above ++ (o ∷ [])) (cond b (inside levels size) (risen levels)) file mid)
+      ≡ then (restOf b (length levels) size file (map (under o) cs) mid) (onward path levels file)
+    by-more true =
+      ap (ahead (map (beneath (above ++ (o ∷ []))) cs)) (only-above (inside levels size) (above ++ (o ∷ [])) path file mid (kept (length levels) (le-refl (length levels))))
+      ∙ more-follows path levels size file mid (map (beneath (above ++ (o ∷ []))) cs) (map (under o) cs)
+          (λ ds. map-append (beneath above) (map (under o) cs) ds ∙ ap (λ z. z ++ map (beneath above) ds) (through-under above o cs)) h
+    by-more false =
+      ap (ahead (map (beneath (above ++ (o ∷ []))) cs)) (only-above (risen levels) (above ++ (o ∷ [])) path file mid (kept (deep (risen levels)) (rises levels)))
+      ∙ ap (λ z. ahead z (from path (risen levels) file mid)) (sym (through-under above o cs))
