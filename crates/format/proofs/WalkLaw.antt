@@ -207,3 +207,91 @@ operation-passed path levels size file more o cs mid l h = by-more more
     by-more false =
       ap (ahead (map (beneath (above ++ (o ∷ []))) cs)) (only-above (risen levels) (above ++ (o ∷ [])) path file mid (kept (deep (risen levels)) (rises levels)))
       ∙ ap (λ z. ahead z (from path (risen levels) file mid)) (sym (through-under above o cs))
+
+-- one item and what lies behind it, where the nodes further on are walked through as they should be
+item-passed : (path : List Op) (levels : List Level) (size : ℕ) (file : List ℕ) (more : Bool) (p : Piece) (end : ℕ) → length levels ≤ length path
+  → ((ls : List Level) (s a : ℕ) (ops : List Op) → length ls ≤ length ops → end ≤ a → Through file ls s a ops)
+  → ahead (claimsHere path (length levels) p) (from (pathAfter path (length levels) p) (after more p levels size) file end)
+    ≡ then (belowBy nodeAt p (length levels) size file end) (λ cs n. then (restOf more (length levels) size file cs n) (onward path levels file))
+item-passed path levels size file true (attestation a payload offset first) end l h =
+  attestation-passed path levels size file true a end (h levels size end path l (le-refl end))
+item-passed path levels size file false (attestation a payload offset first) end l h =
+  attestation-passed path levels size file false a end (h levels size end path l (le-refl end))
+item-passed path levels size file more (operation kind argument offset first) end l h =
+  let o : Op = opOf kind argument in
+  let below : ℕ = resultSize kind size (length argument) in
+  let above : List Op = take (length levels) path ++ (opOf kind argument ∷ []) in
+  let n : length (take (length levels) path) ≡ length levels = length-take-le (length levels) path l in
+  let m : length (take (length levels) path ++ (opOf kind argument ∷ [])) ≡ length (take (length levels) path) + 1 = length-append (take (length levels) path) (opOf kind argument ∷ []) in
+  let e : take (suc (length levels)) (take (length levels) path ++ (opOf kind argument ∷ [])) ≡ take (length levels) path ++ (opOf kind argument ∷ [])
+      = take-all (suc (length levels)) (take (length levels) path ++ (opOf kind argument ∷ [])) (omega arith) in
+  ahead-none (from above (inside (level more size ∷ levels) below) file end)
+  ∙ (h (level more size ∷ levels) below end above (omega arith) (le-refl end)
+  ∙ (ap (λ d. then (nodeAt d below file end) (onward above (level more size ∷ levels) file)) (sym (add-one (length levels)))
+  ∙ (then-cong (end + 1) (nodeAt (length levels + 1) below file end) _ _ (node-from (length levels + 1) below file end) (λ cs mid g.
+      ap (λ z. ahead (map (beneath z) cs) (from above (cond more (inside levels size) (risen levels)) file mid)) e
+      ∙ operation-passed path levels size file more o cs mid l (h levels size mid path l (omega arith)))
+  ∙ sym (then-then (nodeAt (length levels + 1) below file end) _ _))))
+
+through : (k : ℕ) (levels : List Level) (size : ℕ) (file : List ℕ) (at : ℕ) (path : List Op)
+  → length levels ≤ length path → length file - at ≤ k → Through file levels size at path
+through zero levels size file at path l b =
+  let past : length file ≤ at = omega arith in
+  walk-inside path levels size file at
+  ∙ (ap (λ z. then z (λ more next. then (itemAt (length levels) size file next) (λ p end.
+        ahead (claimsHere path (length levels) p) (from (pathAfter path (length levels) p) (after more p levels size) file end)))) (more-past file at past)
+  ∙ (ap (λ z. then z (λ p end. ahead (claimsHere path (length levels) p) (from (pathAfter path (length levels) p) (after false p levels size) file end)))
+        (item-past (length levels) size file at past)
+  ∙ sym (ap (λ z. then z (onward path levels file)) (node-law (length levels) size file at ∙ node-past nodeAt (length levels) size file at past))))
+through (suc k) levels size file at path l b =
+  walk-inside path levels size file at
+  ∙ (then-cong at (moreAt file at) _ _ (more-from file at) (λ more next g.
+      then-cong (next + 1) (itemAt (length levels) size file next) _ _ (item-from (length levels) size file next) (λ p end f.
+        item-passed path levels size file more p end l (λ ls s a ops m u. through k ls s file a ops m (omega arith))))
+  ∙ sym (node-inside path levels size file at))
+
+-- ---- the whole file
+same-claims : (cs : List Claim) → map (beneath []) cs ≡ cs
+same-claims [] = refl
+same-claims (c ∷ cs) = ap (λ z. c ∷ z) (same-claims cs)
+
+end-by : (h : Head) (cs : List Claim) (mid : ℕ) (b : Bool)
+  → then (ahead cs (gives [] (cond b (got [] mid) (fault 12 mid)))) (λ ds last. got (said h ds) last) ≡ cond b (got (said h cs) mid) (fault 12 mid)
+unfolding claimsOf
+end-by h cs mid true = ap (λ z. got (said h z) mid) (append-nil cs)
+end-by h cs mid false = refl
+
+-- behind the top node nothing follows
+at-the-end : (h : Head) (file : List ℕ) (cs : List Claim) (mid : ℕ)
+  → then (onward [] [] file cs mid) (λ ds last. got (said h ds) last) ≡ endAt file (said h cs) mid
+at-the-end h file cs mid =
+  ap (λ z. then (ahead z (from [] behind file mid)) (λ ds last. got (said h ds) last)) (same-claims cs)
+  ∙ (ap (λ z. then (ahead cs (gives [] z)) (λ ds last. got (said h ds) last)) (steps-law behind file mid)
+  ∙ end-by h cs mid (eqb mid (length file)))
+
+-- head, top node and end
+topped : (h : Head) (file : List ℕ) (at : ℕ)
+  → then (then (nodeAt 0 32 file at) (λ cs last. got (said h cs) last)) (endAt file)
+    ≡ then (then (stepsAt top file at) (λ ss last. got (walked h ss) last)) (λ w last. got (said (w .head) (claimsOf [] (w .steps))) last)
+topped h file at =
+  then-then (nodeAt 0 32 file at) _ _
+  ∙ (then-same (nodeAt 0 32 file at) _ _ (λ cs mid. sym (at-the-end h file cs mid))
+  ∙ (sym (then-then (nodeAt 0 32 file at) (onward [] [] file) (λ ds last. got (said h ds) last))
+  ∙ (ap (λ z. then z (λ ds last. got (said h ds) last)) (sym (through (length file) [] 32 file at [] zero-le (omega arith)))
+  ∙ (then-then (stepsAt top file at) (λ ss last. got (claimsOf [] ss) last) (λ ds last. got (said h ds) last)
+  ∙ sym (then-then (stepsAt top file at) _ _)))))
+
+whole-by : (file : List ℕ) (b : Bool)
+  → cond b (then (topAt file) (endAt file)) (fault 1 fileLimit)
+    ≡ then (cond b (then (headAt file) (λ h at. then (stepsAt top file at) (λ ss last. got (walked h ss) last))) (fault 1 fileLimit))
+        (λ w last. got (said (w .head) (claimsOf [] (w .steps))) last)
+unfolding topAt
+whole-by file true =
+  then-then (headAt file) _ _
+  ∙ (then-same (headAt file) _ _ (λ h at. topped h file at)
+  ∙ sym (then-then (headAt file) _ _))
+whole-by file false = refl
+
+pub items-determine-claims : Items-determine-claims
+unfolding fileAt walkAt
+items-determine-claims file = whole-by file (leb (length file) fileLimit)
