@@ -5,3 +5,4 @@ pub mod NodeLaw
 pub mod Chains
 pub mod StepsLaw
 pub mod WalkLaw
+pub mod Counting

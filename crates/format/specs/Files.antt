@@ -59,5 +59,9 @@ topAt file = then (headAt file) (λ h top. then (nodeAt 0 32 file top) (λ cs la
 abbrev pub endAt : {A : Type 0} → List ℕ → A → ℕ → Outcome A
 endAt file x last = cond (eqb last (length file)) (got x last) (fault 12 last)
 
+-- a file within the limit, and its head
+abbrev pub startAt : List ℕ → Outcome Head
+startAt file = cond (leb (length file) fileLimit) (headAt file) (fault 1 fileLimit)
+
 unfoldable pub fileAt : List ℕ → Outcome Said
 fileAt file = cond (leb (length file) fileLimit) (then (topAt file) (endAt file)) (fault 1 fileLimit)

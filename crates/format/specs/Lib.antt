@@ -6,3 +6,4 @@ pub mod Items
 pub mod Nodes
 pub mod Files
 pub mod Walks
+pub mod Counts
