@@ -1,12 +1,14 @@
 -- Claims counted as a walk hands out their attestations.
 use mathlib.Core.Path.{_≡_, refl, sym, ap, subst, _∙_}
 use mathlib.Core.Bool.{Bool, true, false, cond}
+use mathlib.Core.Logic.{⊎-elim}
 use mathlib.Core.List.{List, [], _∷_, _++_}
 use Prim.Native.Nat.{ℕ, suc, _+_, _≤_, _<_}
 use native.Mathlib.Omega.{arith}
 use native.Mathlib.Nat.{add-assoc, zero-add, add-zero}
 use lib.Dec.{eqb, leb}
 use lib.ListN.{length}
+use Rattle.std.proofs.shelf.Tests.{cond-both, eqb-true, cases-lt}
 use Rattle.std.specs.declared.option.Option.{Option}
 use Rattle.std.specs.declared.option.Option.the-variants.{Some, None}
 use Rattle.format.specs.Outcome.{Outcome, got, fault, then}
@@ -14,19 +16,15 @@ use Rattle.format.specs.Operations.{Op}
 use Rattle.format.specs.Attestations.{Att}
 use Rattle.format.specs.Items.{Piece, operation, attestation}
 use Rattle.format.specs.Nodes.{Claim}
-use Rattle.format.specs.Files.{said, headAt, endAt, startAt, fileAt, fileLimit}
+use Rattle.format.specs.Files.{Head, said, headAt, endAt, startAt, fileAt, fileLimit}
 use Rattle.format.specs.Walks.{Level, Place, inside, behind, Step, Handed, stepAt, nextAt, stepsAt, top, walked, walkAt, claimsOf}
-use Rattle.format.specs.Counts.{Counts, counts, plus, one, countsOf}
+use Rattle.format.specs.Counts.{Counts, counts, plus, one, countsOf, adds}
 use Rattle.format.proofs.Progress.{From, from-then}
 use Rattle.format.proofs.Chains.{then-then, then-same}
-use Rattle.format.proofs.StepsLaw.{stepsBy, steps-law, step-from}
+use Rattle.format.proofs.StepsLaw.{stepsBy, steps-law, step-from, step-past}
 use Rattle.format.proofs.WalkLaw.{items-determine-claims}
 
--- what an item adds
-abbrev pub adds : Piece → Counts
-adds (operation kind argument offset first) = counts 0 0 0
-adds (attestation a payload offset first) = one a
-
+-- what the items add
 stepCounts : List Step → Counts
 stepCounts [] = counts 0 0 0
 stepCounts (s ∷ ss) = plus (adds (s .item)) (stepCounts ss)
@@ -114,23 +112,68 @@ pub file-counted : (file : List ℕ)
 unfolding walkAt
 file-counted file = ap (λ z. then z (λ s n. got (countsOf (s .claims)) n)) (items-determine-claims file) ∙ counted-by file (leb (length file) fileLimit)
 
--- what is handed out takes a byte at least
-abbrev Moved : ℕ → Outcome (Option Handed) → Type 0
-Moved at (got None n) = Unit {0}
-Moved at (got (Some h) n) = at < n
-Moved at (fault c o) = Unit {0}
+-- what is handed out takes a byte at least, and a byte of the file
+abbrev Moved : ℕ → ℕ → Outcome (Option Handed) → Type 0
+Moved long at (got None n) = Unit {0}
+Moved long at (got (Some h) n) = (at < n) × (at < long)
+Moved long at (fault c o) = Unit {0}
 
-moved-some : (at : ℕ) (o : Outcome Handed) → From (at + 1) o → Moved at (then o (λ h next. got (Some h) next))
-moved-some at (got h n) l = omega arith
-moved-some at (fault c o) l = tt
+moved-some : (long at : ℕ) (o : Outcome Handed) → at < long → From (at + 1) o → Moved long at (then o (λ h next. got (Some h) next))
+moved-some long at (got h n) w l = (omega arith, w)
+moved-some long at (fault c o) w l = tt
 
-moved-end : (at : ℕ) (b : Bool) → Moved at (cond b (got None at) (fault 12 at))
-moved-end at true = tt
-moved-end at false = tt
+moved-end : (long at : ℕ) (b : Bool) → Moved long at (cond b (got None at) (fault 12 at))
+moved-end long at true = tt
+moved-end long at false = tt
 
-moved : (place : Place) (file : List ℕ) (at : ℕ) → Moved at (nextAt place file at)
-moved (inside levels size) file at = moved-some at (stepAt levels size file at) (step-from levels size file at)
-moved behind file at = moved-end at (eqb at (length file))
+moved : (place : Place) (file : List ℕ) (at : ℕ) → Moved (length file) at (nextAt place file at)
+moved behind file at = moved-end (length file) at (eqb at (length file))
+moved (inside levels size) file at =
+  ⊎-elim (λ w. moved-some (length file) at (stepAt levels size file at) w (step-from levels size file at))
+    (λ l. subst (λ o. Moved (length file) at (then o (λ h next. got (Some h) next))) (sym (step-past levels size file at l)) tt)
+    (cases-lt at (length file))
 
-pub handed-from : (place : Place) (file : List ℕ) (at : ℕ) (h : Handed) (n : ℕ) → got (Some h) n ≡ nextAt place file at → at < n
-handed-from place file at h n e = subst (λ o. Moved at o) (sym e) (moved place file at)
+pub handed-from : (place : Place) (file : List ℕ) (at : ℕ) (h : Handed) (n : ℕ) → got (Some h) n ≡ nextAt place file at → (at < n) × (at < length file)
+handed-from place file at h n e = subst (λ o. Moved (length file) at o) (sym e) (moved place file at)
+
+-- nothing is left only where the file has ended
+abbrev Ended : ℕ → Outcome (Option Handed) → Type 0
+Ended long (got None n) = n ≡ long
+Ended long (got (Some h) n) = Unit {0}
+Ended long (fault c o) = Unit {0}
+
+ended-some : (long : ℕ) (o : Outcome Handed) → Ended long (then o (λ h next. got (Some h) next))
+ended-some long (got h n) = tt
+ended-some long (fault c o) = tt
+
+ended : (place : Place) (file : List ℕ) (at : ℕ) → Ended (length file) (nextAt place file at)
+ended (inside levels size) file at = ended-some (length file) (stepAt levels size file at)
+ended behind file at = cond-both (eqb at (length file)) (got None at) (fault 12 at) (λ o. Ended (length file) o) (λ e. eqb-true at (length file) e) (λ e. tt)
+
+pub none-from : (place : Place) (file : List ℕ) (at n : ℕ) → got None n ≡ nextAt place file at → n ≡ length file
+none-from place file at n e = subst (λ o. Ended (length file) o) (sym e) (ended place file at)
+
+-- ---- a count over a walk from the top: started, going on, and stopped
+abbrev pub fileCounts : List ℕ → Outcome Counts
+fileCounts file = then (fileAt file) (λ s n. got (countsOf (s .claims)) n)
+
+pub not-started : (file : List ℕ) (n o : ℕ) → fault n o ≡ startAt file → fault n o ≡ fileCounts file
+not-started file n o e = ap (λ z. then z (λ h at. countsAt (counts 0 0 0) top file at)) e ∙ sym (file-counted file)
+
+module _ (file : List ℕ) (h : Head) (start : ℕ) (begun : got h start ≡ startAt file) (c : Counts) (place : Place) (at : ℕ)
+    (inv : countsAt c place file at ≡ countsAt (counts 0 0 0) top file start) where
+  so-far : countsAt c place file at ≡ fileCounts file
+  so-far = inv ∙ (ap (λ z. then z (λ h at. countsAt (counts 0 0 0) top file at)) begun ∙ sym (file-counted file))
+
+  next-on : (o : Outcome (Option Handed)) → o ≡ nextAt place file at → then o (countsOn c file) ≡ countsAt c place file at
+  next-on o e = ap (λ z. then z (countsOn c file)) e ∙ sym (count-next c place file at)
+
+  pub stopped : (n o : ℕ) → fault n o ≡ nextAt place file at → fault n o ≡ fileCounts file
+  stopped n o e = next-on (fault n o) e ∙ so-far
+
+  pub finished : (n : ℕ) → got None n ≡ nextAt place file at → got c (length file) ≡ fileCounts file
+  finished n e = ap (λ m. got c m) (sym (none-from place file at n e)) ∙ (next-on (got None n) e ∙ so-far)
+
+  pub goes-on : (d : Counts) (s : Handed) (n : ℕ) → d ≡ plus c (adds (s .step .item)) → got (Some s) n ≡ nextAt place file at
+    → countsAt d (s .place) file n ≡ countsAt (counts 0 0 0) top file start
+  goes-on d s n e g = ap (λ z. countsAt z (s .place) file n) e ∙ (next-on (got (Some s) n) g ∙ inv)

@@ -20,7 +20,7 @@ step-from levels size file at =
   from-then (next + 1) (at + 1) (itemAt (length levels) size file next) _ (item-from (length levels) size file next)
     (λ p end g. let z : at + 1 ≤ end = omega arith in z))
 
-step-past : (levels : List Level) (size : ℕ) (file : List ℕ) (at : ℕ) → length file ≤ at → stepAt levels size file at ≡ fault 2 (length file)
+pub step-past : (levels : List Level) (size : ℕ) (file : List ℕ) (at : ℕ) → length file ≤ at → stepAt levels size file at ≡ fault 2 (length file)
 step-past levels size file at h = rw (more-past file at h, item-past (length levels) size file at h)
 
 -- how the items from a place on are read

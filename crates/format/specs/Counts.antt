@@ -2,6 +2,7 @@
 use mathlib.Core.List.{List, [], _∷_}
 use Prim.Native.Nat.{ℕ, _+_}
 use Rattle.format.specs.Attestations.{Att, pending, bitcoin, unknown}
+use Rattle.format.specs.Items.{Piece, operation, attestation}
 use Rattle.format.specs.Nodes.{Claim}
 
 pub record Counts : Type 0 where
@@ -24,3 +25,8 @@ one (unknown tag payload) = counts 0 0 1
 unfoldable pub countsOf : List Claim → Counts
 countsOf [] = counts 0 0 0
 countsOf (c ∷ cs) = plus (one (c .attestation)) (countsOf cs)
+
+-- what an item of a walk adds
+abbrev pub adds : Piece → Counts
+adds (operation kind argument offset first) = counts 0 0 0
+adds (attestation a payload offset first) = one a

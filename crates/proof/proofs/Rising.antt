@@ -12,22 +12,18 @@ use Rattle.format.specs.Walks.{Level, level, Place, inside, behind, risen}
 use Rattle.proof.specs.Levels.{levelsOf}
 
 pub levels-none : (more : List Bool) (sizes : List ℕ) (d : ℕ) → d ≡ 0 → risen (levelsOf more sizes d) ≡ behind
-unfolding levelsOf
 levels-none more sizes d e = ap (λ n. risen (levelsOf more sizes n)) e
 
 pub levels-more : (more : List Bool) (sizes : List ℕ) (d j : ℕ) → d ≡ suc j
   → risen (levelsOf more sizes d) ≡ cond (getD more j false) (inside (levelsOf more sizes j) (getD sizes j 0)) (risen (levelsOf more sizes j))
-unfolding levelsOf
 levels-more more sizes d j e = ap (λ n. risen (levelsOf more sizes n)) e
 
 pub levels-count : (more : List Bool) (sizes : List ℕ) (d : ℕ) → length (levelsOf more sizes d) ≡ d
-unfolding levelsOf
 levels-count more sizes zero = refl
 levels-count more sizes (suc d) = ap suc (levels-count more sizes d)
 
 -- what is written at d or above leaves the levels below d
 pub levels-kept : (more : List Bool) (sizes : List ℕ) (d i : ℕ) (b : Bool) (s : ℕ) → d ≤ i → levelsOf (set more i b) (set sizes i s) d ≡ levelsOf more sizes d
-unfolding levelsOf
 levels-kept more sizes zero i b s l = refl
 levels-kept more sizes (suc d) i b s l =
   let ne : d ≢ i = λ e. omega arith in
@@ -40,7 +36,6 @@ levels-kept more sizes (suc d) i b s l =
 -- one level further down
 pub levels-push : (more : List Bool) (sizes : List ℕ) (d : ℕ) (b : Bool) (s : ℕ) → d < length more → d < length sizes
   → levelsOf (set more d b) (set sizes d s) (d + 1) ≡ level b s ∷ levelsOf more sizes d
-unfolding levelsOf
 levels-push more sizes d b s l m =
   ap (λ n. levelsOf (set more d b) (set sizes d s) n) (add-one d)
   ∙ (ap (λ x. level x (getD (set sizes d s) d 0) ∷ levelsOf (set more d b) (set sizes d s) d) (getD-set-same more d b false l)

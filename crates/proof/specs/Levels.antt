@@ -8,7 +8,7 @@ use Rattle.std.specs.declared.option.Option.the-variants.{Some, None}
 use Rattle.format.specs.Walks.{Level, level, Place, inside, behind}
 
 -- the nearest first
-unfoldable pub levelsOf : List Bool → List ℕ → ℕ → List Level
+abbrev pub levelsOf : List Bool → List ℕ → ℕ → List Level
 levelsOf more sizes zero = []
 levelsOf more sizes (suc d) = level (getD more d false) (getD sizes d 0) ∷ levelsOf more sizes d
 

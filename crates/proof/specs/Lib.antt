@@ -4,3 +4,4 @@ pub mod Pieces
 pub mod Heads
 pub mod Levels
 pub mod Places
+pub mod Counted

@@ -73,7 +73,7 @@ impl<'a> Reader<'a> {
     }
 
     // The head of the file, from its first byte on.
-    fn head(&mut self) -> Result<Head<'a>, Fault>
+    pub(crate) fn head(&mut self) -> Result<Head<'a>, Fault>
         requires { ⌜ now self .at ≡ 0 ⌝ }
         ensures same { λ _. ⌜ now (now (self .exit) .file) ≡ now (now (self .entry) .file) ⌝ }
         ensures reads { λ r. ⌜ outcome headed r (now (self .exit) .at) ≡ headAt (now (now (self .entry) .file)) ⌝ }

@@ -1,5 +1,6 @@
 // The reader of proof files.
 pub mod attestations;
+pub mod counts;
 pub mod fault;
 pub mod head;
 pub mod item;

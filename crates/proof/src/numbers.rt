@@ -25,12 +25,13 @@ impl<'a> Reader<'a> {
     pub fn bytes(&mut self, n: usize) -> Result<&'a [u8], Fault>
         ensures long { λ r. ⌜ made r (λ s. length (now s) ≡ n) ⌝ }
         ensures behind { λ r. ⌜ made r (λ s. length (now s) ≤ now (self .exit) .at) ⌝ }
+        ensures within { λ r. ⌜ made r (λ _. now (self .exit) .at ≤ length (now (now (self .entry) .file))) ⌝ }
         ensures same { λ _. ⌜ now (now (self .exit) .file) ≡ now (now (self .entry) .file) ⌝ }
         ensures reads { λ r. ⌜ outcome (λ s. now s) r (now (self .exit) .at) ≡ bytesAt n (now (now (self .entry) .file)) (now (self .entry) .at) ⌝ }
     {
         let file = self.file;
         let at = self.at;
-        if n > file.len() - at {
+        if at > file.len() || n > file.len() - at {
             return Err(Fault::Ends(file.len()));
         }
         self.at = at + n;
@@ -81,6 +82,7 @@ impl<'a> Reader<'a> {
     pub fn block(&mut self, least: u32, most: u32) -> Result<&'a [u8], Fault>
         ensures long { λ r. ⌜ made r (λ s. length (now s) ≤ most) ⌝ }
         ensures behind { λ r. ⌜ made r (λ s. length (now s) ≤ now (self .exit) .at) ⌝ }
+        ensures within { λ r. ⌜ made r (λ _. now (self .exit) .at ≤ length (now (now (self .entry) .file))) ⌝ }
         ensures same { λ _. ⌜ now (now (self .exit) .file) ≡ now (now (self .entry) .file) ⌝ }
         ensures reads { λ r. ⌜ outcome (λ s. now s) r (now (self .exit) .at) ≡ blockAt least most (now (now (self .entry) .file)) (now (self .entry) .at) ⌝ }
     {

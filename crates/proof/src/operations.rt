@@ -32,8 +32,7 @@ impl<'a> Reader<'a> {
             Kind::Append | Kind::Prepend => self.block(1, ARGUMENT),
             Kind::Sha256 | Kind::Reverse | Kind::Hexlify => {
                 let file = self.file;
-                let at = self.at;
-                Ok(&file[at..at])
+                Ok(&file[0..0])
             }
         }
     }

@@ -4,27 +4,62 @@ ghost use mathlib.Core.Bool.{true};
 ghost use mathlib.Core.List.{List, _∷_};
 ghost use Prim.Native.Nat.{ℕ, _+_, _<_, _≤_};
 ghost use lib.ListN.{length};
-ghost use Rattle.format.specs.Walks.{risen, nextAt, after, inside, level};
+ghost use Rattle.std.specs.Vec.{made};
+ghost use Rattle.format.specs.Files.{startAt};
+ghost use Rattle.format.specs.Walks.{risen, nextAt, after, inside, level, top};
 ghost use Rattle.proof.specs.Answers.{outcome};
 ghost use Rattle.proof.specs.Pieces.{piece, Bounded};
 ghost use Rattle.proof.specs.Levels.{levelsOf, rose};
-ghost use Rattle.proof.specs.Places.{placeOf, handedBy, Stays};
+ghost use Rattle.proof.specs.Places.{placeOf, opened, handedBy, Stays};
 use crate::fault::Fault;
+use crate::head::Head;
 use crate::item::Item;
 use crate::operations::result_size;
+use crate::reader::Reader;
 use crate::walk::Step;
 use crate::walk::Walk;
 
+// The longest file.
+const FILE: usize = 65536;
+
 impl<'a> Walk<'a> {
+    // A walk that stands at the top node, behind the head of the file.
+    pub fn new(file: &'a [u8]) -> Result<Walk<'a>, Fault>
+        ensures walks { λ r. ⌜ made r (λ w. (now (w .reader .file) ≡ now (file .entry)) × (placeOf w ≡ top)) ⌝ }
+        ensures reads { λ r. ⌜ opened r ≡ startAt (now (file .entry)) ⌝ }
+    {
+        if file.len() > FILE {
+            return Err(Fault::Long);
+        }
+        let mut reader = Reader { file, at: 0 };
+        let head = reader.head()?;
+        Ok(Walk { reader, head, more: [false; 256], sizes: [0; 256], depth: 0, size: 32, inside: true })
+    }
+
+    // The offset of the file hash tag, and the digest.
+    pub fn head(&self) -> Head<'a>
+        ensures { λ r. ⌜ r ≡ now (self .entry) .head ⌝ }
+    {
+        self.head
+    }
+
+    // How many bytes have been read.
+    pub fn offset(&self) -> usize
+        ensures { λ r. ⌜ r ≡ now (self .entry) .reader .at ⌝ }
+    {
+        self.reader.at
+    }
+
     // The next item with its depth; none once the file has ended. A fault stays: to ask again gives it again.
     pub fn next(&mut self) -> Result<Option<Step<'a>>, Fault>
         ensures same { λ _. ⌜ now (now (self .exit) .reader .file) ≡ now (now (self .entry) .reader .file) ⌝ }
+        ensures head { λ _. ⌜ now (self .exit) .head ≡ now (self .entry) .head ⌝ }
         ensures kept { λ r. ⌜ Stays r (now (self .exit) ≡ now (self .entry)) ⌝ }
         ensures reads { λ r. ⌜ outcome (λ s. handedBy s (placeOf (now (self .exit)))) r (now (self .exit) .reader .at) ≡ nextAt (placeOf (now (self .entry))) (now (now (self .entry) .reader .file)) (now (self .entry) .reader .at) ⌝ }
     {
         let mut reader = self.reader;
         if !self.inside {
-            if reader.at < reader.file.len() {
+            if reader.at != reader.file.len() {
                 return Err(Fault::Follows(reader.at));
             }
             return Ok(None);
@@ -43,6 +78,7 @@ impl<'a> Walk<'a> {
     fn pass(&mut self, more: bool, item: &Item)
         requires { ⌜ now self .inside ≡ true ⌝ ∗ ⌜ Bounded (now self .depth) (now self .size) (now item) ⌝ }
         ensures same { λ _. ⌜ now (self .exit) .reader ≡ now (self .entry) .reader ⌝ }
+        ensures head { λ _. ⌜ now (self .exit) .head ≡ now (self .entry) .head ⌝ }
         ensures place { λ _. ⌜ placeOf (now (self .exit)) ≡ after more (piece (now (item .entry))) (levelsOf (now (self .entry) .more) (now (self .entry) .sizes) (now (self .entry) .depth)) (now (self .entry) .size) ⌝ }
     {
         match *item {
@@ -62,6 +98,7 @@ impl<'a> Walk<'a> {
     fn descend(&mut self, more: bool, size: u16)
         requires { ⌜ now self .inside ≡ true ⌝ ∗ ⌜ now self .depth < 255 ⌝ }
         ensures same { λ _. ⌜ now (self .exit) .reader ≡ now (self .entry) .reader ⌝ }
+        ensures head { λ _. ⌜ now (self .exit) .head ≡ now (self .entry) .head ⌝ }
         ensures place { λ _. ⌜ placeOf (now (self .exit)) ≡ inside (level more (now (self .entry) .size) ∷ levelsOf (now (self .entry) .more) (now (self .entry) .sizes) (now (self .entry) .depth)) size ⌝ }
     {
         let depth = self.depth;
@@ -81,6 +118,7 @@ impl<'a> Walk<'a> {
     // The node has ended: goes up to the next one that goes on.
     fn rise(&mut self)
         ensures same { λ _. ⌜ now (self .exit) .reader ≡ now (self .entry) .reader ⌝ }
+        ensures head { λ _. ⌜ now (self .exit) .head ≡ now (self .entry) .head ⌝ }
         ensures place { λ _. ⌜ placeOf (now (self .exit)) ≡ risen (levelsOf (now (self .entry) .more) (now (self .entry) .sizes) (now (self .entry) .depth)) ⌝ }
     {
         match going_on(&self.more, self.depth) {

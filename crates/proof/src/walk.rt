@@ -6,6 +6,7 @@ use crate::reader::Reader;
 // Where a walk stands: in a node under `depth` operations over a message of `size` bytes, or behind the top node.
 // For each of the nodes above, `more` says whether items follow there, and `sizes` how long its message is. A node
 // lies under at most 255 operations, so a depth is always an index.
+#[derive(Drop)]
 pub struct Walk<'a> {
     pub(crate) reader: Reader<'a>,
     pub(crate) head: Head<'a>,
