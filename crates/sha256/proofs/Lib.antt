@@ -1,0 +1,5 @@
+-- Lemmas that several answers rest on.
+mod Windows
+mod Rounds
+mod Blocks
+mod Tails
