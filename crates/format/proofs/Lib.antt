@@ -6,3 +6,6 @@ pub mod Chains
 pub mod StepsLaw
 pub mod WalkLaw
 pub mod Counting
+pub mod Sound
+pub mod Complete
+pub mod GrammarIsExact

@@ -7,3 +7,5 @@ pub mod Nodes
 pub mod Files
 pub mod Walks
 pub mod Counts
+pub mod Grammar
+pub mod Exact

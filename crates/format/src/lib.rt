@@ -9,3 +9,12 @@ pub enum Kind {
     Reverse,
     Hexlify,
 }
+
+ghost use Rattle.format.specs.Exact.{Exact};
+
+// Law: the reading accepts exactly the files of the grammar, and gives what the grammar says they claim.
+pub fn grammar_is_exact() -> u8
+    ensures { λ _. ⌜ Exact ⌝ }
+{
+    0
+}
