@@ -9,3 +9,4 @@ pub mod Counting
 pub mod Sound
 pub mod Complete
 pub mod GrammarIsExact
+pub mod Prompt

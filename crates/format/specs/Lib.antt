@@ -9,3 +9,4 @@ pub mod Walks
 pub mod Counts
 pub mod Grammar
 pub mod Exact
+pub mod FirstFault
