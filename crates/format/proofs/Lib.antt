@@ -10,3 +10,4 @@ pub mod Sound
 pub mod Complete
 pub mod GrammarIsExact
 pub mod Prompt
+pub mod FirstFaultIsFixed

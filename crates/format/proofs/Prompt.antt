@@ -21,7 +21,7 @@ use Rattle.format.specs.Attestations.{Att, pending, bitcoin, unknown, pendingT
 use Rattle.format.specs.Items.{Piece, operation, attestation, operationAt, attestationAt, itemAt}
 use Rattle.format.specs.Nodes.{Claim, claim, under, moreAt, Reading, belowBy, branchBy, nodeBy, nodeAt}
 use Rattle.format.specs.Files.{mark, markAt, Head, head, digestAt, versionAt, headAt, Said, said, topAt}
-use Rattle.format.proofs.Progress.{From, item-from}
+use Rattle.format.proofs.Progress.{From, from-weaker, item-from}
 use Rattle.format.proofs.NodeLaw.{byte-past, item-past, more-past, node-past, node-law, branch-from, node-from}
 
 -- the first m bytes settle what R reads from offset a: with them it is the same, and with fewer the file ends
@@ -316,3 +316,165 @@ prompt-item depth size file at l =
   prompt-cond (eqb tag 0) (λ F. attestationAt F next) (λ F. operationAt (kindOf tag) at depth size F next) next file
     (λ _. prompt-attestation file next h)
     (λ _. prompt-operation (kindOf tag) at depth size file next h))
+
+-- ---- nodes
+
+-- with nothing left from a on, the file ends
+prompt-past : {A : Type 0} (R : List ℕ → Outcome A) (a : ℕ) (file : List ℕ) → ((F : List ℕ) → length F ≤ a → R F ≡ fault 2 (length F))
+  → length file ≤ a → Prompt R a file
+prompt-past R a file e l = subst (λ o. PromptBy o R a file) (sym (e file l)) (inl (refl, record
+  { ends = refl
+  ; cut = λ k g h. let p = length-take-le k file h in
+      e (take k file) (let z : length (take k file) ≤ a = omega arith in z) ∙ ap (λ i. fault 2 i) p }))
+
+-- a reading that fails without the byte at a reads that byte
+later : {A : Type 0} (R : List ℕ → Outcome A) (a : ℕ) (file : List ℕ) (o : Outcome A) → R file ≡ o → R (take a file) ≡ fault 2 a → a < length file
+  → PromptBy o R a file → PromptBy o R (a + 1) file
+later {A = A} R a file o q s l p = by o q p
+  where
+    reached : (m : ℕ) → Kept R a file m → (R file ≡ fault 2 a → ⊥) → a + 1 ≤ m
+    reached m k h = let i = k .low in ⊎-elim (λ u. omega arith)
+      (λ u. absurd (h (sym (k .stable (take a file) (take-take m a file u)) ∙ s))) (cases-lt a m)
+    kept : (m : ℕ) → Kept R a file m → (R file ≡ fault 2 a → ⊥) → Kept R (a + 1) file m
+    kept m k h = record { low = reached m k h; within = k .within; stable = k .stable; cut = λ i g u. k .cut i (omega arith) u }
+    by : (o : Outcome A) → R file ≡ o → PromptBy o R a file → PromptBy o R (a + 1) file
+    by (got x n) e k = kept n k (λ d. let z : _≡_ {A = ℕ} 0 1 = cc in omega arith)
+    by (fault c i) e k = ⊎-elim
+      (λ t. inl (t .0, record { ends = t .1 .ends; cut = λ j g u. t .1 .cut j (omega arith) u }))
+      (λ t. let above = t .above in
+        inr (record { above = t .above; below = t .below; m = t .m; kept = kept (t .m) (t .kept) (λ d. let z : c ≡ 2 = cc in omega arith) })) k
+
+-- a branch, and the others where there are more
+abbrev restBy : Reading → Bool → Reading
+restBy f more depth size file at =
+  then (branchBy f depth size file at) (λ cs after. cond more (then (f depth size file after) (λ rest last. got (cs ++ rest) last)) (got cs after))
+
+rest-past : (f : Reading) (more : Bool) (depth size : ℕ) (file : List ℕ) (at : ℕ) → length file ≤ at → restBy f more depth size file at ≡ fault 2 (length file)
+rest-past f more depth size file at h = rw (item-past depth size file at h)
+
+split : {A B : Type 0} (b : Bool) (x y : A) (i j : ℕ) (k : A → ℕ → Outcome B) → then (cond b (got x i) (got y j)) k ≡ cond b (k x i) (k y j)
+split true x y i j k = refl
+split false x y i j k = refl
+
+-- a node by its first byte
+peeked : (f : Reading) (depth size at : ℕ) (file : List ℕ)
+  → nodeBy f depth size file at
+    ≡ then (byteAt file at) (λ b next. cond (eqb b 0xff) (restBy f true depth size file next) (restBy f false depth size file at))
+peeked f depth size at file = ⊎-elim
+  (λ l. ap (λ z. then (cond (z && eqb (getD file at 0) 0xff) (got true (at + 1)) (got false at)) (λ more next. restBy f more depth size file next)) (lt-ltb at (length file) l)
+    ∙ (split (eqb (getD file at 0) 0xff) true false (at + 1) at (λ more next. restBy f more depth size file next)
+    ∙ sym (ap (λ z. then z (λ b next. cond (eqb b 0xff) (restBy f true depth size file next) (restBy f false depth size file at)))
+        (cond-true _ _ _ (lt-ltb at (length file) l)))))
+  (λ l. node-past f depth size file at l
+    ∙ sym (ap (λ z. then z (λ b next. cond (eqb b 0xff) (restBy f true depth size file next) (restBy f false depth size file at))) (byte-past file at l)))
+  (cases-lt at (length file))
+
+-- the nodes that begin at an offset or behind it
+abbrev Below : Reading → ℕ → List ℕ → Type 0
+Below f from file = (d s a : ℕ) → from ≤ a → a ≤ length file → Prompt (λ F. f d s F a) a file
+
+prompt-below : (f : Reading) (p : Piece) (depth size : ℕ) (file : List ℕ) (from at : ℕ) → Below f from file → from ≤ at → at ≤ length file
+  → Prompt (λ F. belowBy f p depth size F at) at file
+prompt-below f (operation kind argument offset first) depth size file from at q g h =
+  prompt-then (λ F. f (depth + 1) (resultSize kind size (length argument)) F at) (λ cs last F. got (map (under (opOf kind argument)) cs) last) at file
+    (q (depth + 1) (resultSize kind size (length argument)) at g h) (λ cs last e u v.
+  prompt-got (map (under (opOf kind argument)) cs) last file v)
+prompt-below f (attestation a payload offset first) depth size file from at q g h = prompt-got (claim [] a ∷ []) at file h
+
+-- an item moves the offset on
+item-on : (depth size : ℕ) (file : List ℕ) (at n : ℕ) (p : Piece) → itemAt depth size file at ≡ got p n → at + 1 ≤ n
+item-on depth size file at n p e = subst (λ o. From (at + 1) o) e (item-from depth size file at)
+
+prompt-branch : (f : Reading) (depth size : ℕ) (file : List ℕ) (at : ℕ) → Below f (at + 1) file → at ≤ length file
+  → Prompt (λ F. branchBy f depth size F at) at file
+prompt-branch f depth size file at q l =
+  prompt-then (λ F. itemAt depth size F at) (λ p end F. belowBy f p depth size F end) at file (prompt-item depth size file at l) (λ p end e g h.
+  prompt-below f p depth size file (at + 1) end q (item-on depth size file at end p e) h)
+
+branch-on : (depth size : ℕ) (file : List ℕ) (at n : ℕ) (cs : List Claim) → branchBy nodeAt depth size file at ≡ got cs n → at + 1 ≤ n
+branch-on depth size file at n cs e = subst (λ o. From (at + 1) o) e
+  (branch-from nodeAt depth size file at (λ d s a. from-weaker (a + 1) a _ (omega arith) (node-from d s file a)))
+
+prompt-rest : (more : Bool) (depth size : ℕ) (file : List ℕ) (at : ℕ) → Below nodeAt (at + 1) file → at ≤ length file
+  → Prompt (λ F. restBy nodeAt more depth size F at) at file
+prompt-rest more depth size file at q l =
+  prompt-then (λ F. branchBy nodeAt depth size F at)
+    (λ cs after F. cond more (then (nodeAt depth size F after) (λ rest last. got (cs ++ rest) last)) (got cs after))
+    at file (prompt-branch nodeAt depth size file at q l) (λ cs after e g h.
+  prompt-cond more (λ F. then (nodeAt depth size F after) (λ rest last. got (cs ++ rest) last)) (λ F. got cs after) after file
+    (λ _. prompt-then (λ F. nodeAt depth size F after) (λ rest last F. got (cs ++ rest) last) after file
+      (q depth size after (branch-on depth size file at after cs e) h) (λ rest last d u v.
+      prompt-got (cs ++ rest) last file v))
+    (λ _. prompt-got cs after file h))
+
+-- a byte that was read stands before the end
+byte-on : (file : List ℕ) (at b n : ℕ) → byteAt file at ≡ got b n → (at < length file) × (n ≡ at + 1)
+byte-on file at b n e = ⊎-elim
+  (λ l. (l, let q : byteAt file at ≡ got (getD file at 0) (at + 1) = cond-true _ _ _ (lt-ltb at (length file) l) in cc))
+  (λ l. absurd (let q = byte-past file at l in let z : _≡_ {A = ℕ} 0 1 = cc in omega arith))
+  (cases-lt at (length file))
+
+-- j bounds the bytes left
+prompt-steps : (j : ℕ) (depth size : ℕ) (file : List ℕ) (at : ℕ) → at ≤ length file → length file - at ≤ j
+  → Prompt (λ F. nodeAt depth size F at) at file
+prompt-steps zero depth size file at w l =
+  prompt-past (λ F. nodeAt depth size F at) at file (λ F h. node-law depth size F at ∙ node-past nodeAt depth size F at h) (omega arith)
+prompt-steps (suc j) depth size file at w l =
+  let behind : Below nodeAt (at + 1) file = λ d s a g h. prompt-steps j d s file a h (omega arith) in
+  let R : List ℕ → Outcome (List Claim) = λ F.
+    then (byteAt F at) (λ b next. cond (eqb b 0xff) (restBy nodeAt true depth size F next) (restBy nodeAt false depth size F at)) in
+  prompt-same R (λ F. nodeAt depth size F at) at file (λ F. node-law depth size F at ∙ peeked nodeAt depth size at F)
+  (prompt-then (λ F. byteAt F at) (λ b next F. cond (eqb b 0xff) (restBy nodeAt true depth size F next) (restBy nodeAt false depth size F at))
+    at file (prompt-byte file at w) (λ b next e g h.
+  let o = byte-on file at b next e in
+  let t : at < length file = o .0 in
+  let n : next ≡ at + 1 = o .1 in
+  let c = length-take-le at file w in
+  prompt-cond (eqb b 0xff) (λ F. restBy nodeAt true depth size F next) (λ F. restBy nodeAt false depth size F at) next file
+    (λ _. prompt-rest true depth size file next (λ d s a u v. behind d s a (omega arith) v) h)
+    (λ _. subst (λ i. Prompt (λ F. restBy nodeAt false depth size F at) i file) (sym n)
+      (later (λ F. restBy nodeAt false depth size F at) at file (restBy nodeAt false depth size file at) refl
+        (rest-past nodeAt false depth size (take at file) at (let z : length (take at file) ≤ at = omega arith in z) ∙ ap (λ i. fault 2 i) c)
+        t (prompt-rest false depth size file at behind w)))))
+
+pub prompt-node : (depth size : ℕ) (file : List ℕ) (at : ℕ) → at ≤ length file → Prompt (λ F. nodeAt depth size F at) at file
+prompt-node depth size file at w = prompt-steps (length file - at) depth size file at w (le-refl (length file - at))
+
+-- ---- files
+
+prompt-mark : (ms file : List ℕ) (at : ℕ) → at ≤ length file → Prompt (λ F. markAt ms F at) at file
+unfolding markAt
+prompt-mark [] file at l = prompt-got tt at file l
+prompt-mark (m ∷ ms) file at l =
+  prompt-then (λ F. byteAt F at) (λ b next F. cond (eqb b m) (markAt ms F next) (fault 3 at)) at file (prompt-byte file at l) (λ b next e g h.
+  prompt-cond (eqb b m) (λ F. markAt ms F next) (λ F. fault 3 at) next file
+    (λ _. prompt-mark ms file next h) (λ _. prompt-fault 3 at next file (omega arith) (omega arith) h))
+
+prompt-digest : (file : List ℕ) (at : ℕ) → at ≤ length file → Prompt (λ F. digestAt F at) at file
+prompt-digest file at l =
+  prompt-then (λ F. byteAt F at)
+    (λ tag next F. cond (eqb tag 0x08) (then (bytesAt 32 F next) (λ digest top. got (head at digest) top)) (fault 5 at))
+    at file (prompt-byte file at l) (λ tag next e g h.
+  prompt-cond (eqb tag 0x08) (λ F. then (bytesAt 32 F next) (λ digest top. got (head at digest) top)) (λ F. fault 5 at) next file
+    (λ _. prompt-then (λ F. bytesAt 32 F next) (λ digest top F. got (head at digest) top) next file (prompt-bytes 32 file next h) (λ digest top d u v.
+      prompt-got (head at digest) top file v))
+    (λ _. prompt-fault 5 at next file (omega arith) (omega arith) h))
+
+prompt-version : (file : List ℕ) (at : ℕ) → at ≤ length file → Prompt (λ F. versionAt F at) at file
+prompt-version file at l =
+  prompt-then (λ F. numberAt F at) (λ version next F. cond (eqb version 1) (digestAt F next) (fault 4 at)) at file (prompt-number file at l) (λ version next e g h.
+  prompt-cond (eqb version 1) (λ F. digestAt F next) (λ F. fault 4 at) next file
+    (λ _. prompt-digest file next h) (λ _. prompt-fault 4 at next file (omega arith) (omega arith) h))
+
+prompt-head : (file : List ℕ) → Prompt headAt 0 file
+unfolding headAt
+prompt-head file =
+  prompt-then (λ F. markAt mark F 0) (λ u at F. versionAt F at) 0 file (prompt-mark mark file 0 (omega arith)) (λ u at e g h.
+  prompt-version file at h)
+
+pub prompt-top : (file : List ℕ) → Prompt topAt 0 file
+unfolding topAt
+prompt-top file =
+  prompt-then headAt (λ h top F. then (nodeAt 0 32 F top) (λ cs last. got (said h cs) last)) 0 file (prompt-head file) (λ h top e g w.
+  prompt-then (λ F. nodeAt 0 32 F top) (λ cs last F. got (said h cs) last) top file (prompt-node 0 32 file top w) (λ cs last d u v.
+  prompt-got (said h cs) last file v))
