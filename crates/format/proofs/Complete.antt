@@ -1,26 +1,24 @@
 -- What the grammar spells is read.
-use mathlib.Core.Path.{_≡_, refl, sym, ap, subst, _∙_}
-use mathlib.Core.Bool.{Bool, true, false, cond, _&&_}
-use mathlib.Core.List.{List, [], _∷_, _++_, map, append-assoc}
-use Prim.Native.Nat.{ℕ, zero, suc, _+_, _-_, _*_, _^_, _≤_, _<_}
+use mathlib.Core.Path.{_≡_, refl, sym, ap, _∙_}
+use mathlib.Core.Bool.{true, false, cond, _&&_}
+use mathlib.Core.List.{List, [], _∷_, _++_, append-assoc}
+use Prim.Native.Nat.{ℕ, suc, _+_, _-_, _*_, _^_, _≤_, _<_}
 use native.Mathlib.Omega.{arith}
 use lib.Dec.{ltb, leb, eqb}
 use lib.ListN.{length, getD, take, drop}
 use Rattle.std.proofs.shelf.Tests.{lt-ltb, le-ltb, le-leb, lt-leb, eq-eqb, ne-eqb, and-from, and-right, cond-true, cond-false, cases-bool}
 use Rattle.std.proofs.shelf.Lists.{append-nil, drop-take, length-take-le, drop-drop, take-at, drop-at, length-append, length-drop, getD-drop}
 use mathlib.Core.Logic.{⊎-elim}
-use Rattle.std.specs.declared.option.Option.{Option}
 use Rattle.std.specs.declared.option.Option.the-variants.{Some, None}
 use Rattle.format.specs.declared.Kind.{Kind}
-use Rattle.format.specs.declared.Kind.the-variants.{Sha256, Append, Prepend, Reverse, Hexlify}
 use Rattle.format.specs.Outcome.{Outcome, got, fault, then}
 use Rattle.format.specs.Numbers.{byteAt, bytesAt, numberFrom, numberAt, lengthAt, blockAt}
-use Rattle.format.specs.Operations.{opOf, kindOf, resultSize, messageLimit, pathLimit, argumentAt}
-use Rattle.format.specs.Attestations.{Att, pending, bitcoin, unknown, pendingTag, bitcoinTag, payloadLimit, addressLimit, same, addressBytes, whole, heightAt, addressAt, contentAt}
-use Rattle.format.specs.Items.{Piece, operationAt, attestationAt, itemAt}
+use Rattle.format.specs.Operations.{kindOf, resultSize, messageLimit, pathLimit, argumentAt}
+use Rattle.format.specs.Attestations.{Att, pending, bitcoin, pendingTag, bitcoinTag, payloadLimit, same, whole, contentAt}
+use Rattle.format.specs.Items.{Piece, operationAt, itemAt}
 use Rattle.format.specs.Items as items
-use Rattle.format.specs.Nodes.{Claim, moreAt, branchBy, nodeBy, nodeAt}
-use Rattle.format.specs.Files.{mark, fileLimit, markAt, Head, head, digestAt, headAt, Said, said, topAt, fileAt}
+use Rattle.format.specs.Nodes.{Claim, moreAt, branchBy, nodeAt}
+use Rattle.format.specs.Files.{mark, fileLimit, markAt, head, headAt, Said, said, topAt, fileAt}
 use Rattle.format.specs.Grammar.{Groups, final, onward, Number, Block, block, Argument, sha256, append, prepend, reverse, hexlify, Content, height, address, other, Branch, Node, attestation, operation, last, another, File, proof}
 use Rattle.format.proofs.NumberSteps.{number-more}
 use Rattle.format.proofs.Sound.{weigh, same-is, is-same, each-address, mark-long}

@@ -1,19 +1,17 @@
 -- The fault of a file is the first that its bytes show.
 use mathlib.Core.Path.{_≡_, refl, sym, ap, subst, _∙_}
-use mathlib.Core.Bool.{Bool, true, false, cond}
 use mathlib.Core.List.{List}
-use mathlib.Core.Logic.{_⊎_, inl, inr, ⊎-elim}
+use mathlib.Core.Logic.{⊎-elim}
 use Prim.Native.Nat.{ℕ, _≤_, _<_}
 use native.Mathlib.Omega.{arith}
 use native.Mathlib.Nat.{le-refl}
-use lib.Dec.{leb, eqb}
 use lib.ListN.{length, take}
 use Rattle.std.proofs.shelf.Tests.{le-leb, lt-leb, eq-eqb, ne-eqb, cond-true, cond-false, cases-lt, cases-eq}
 use Rattle.std.proofs.shelf.Lists.{take-take, length-take-le}
 use Rattle.format.specs.Outcome.{Outcome, got, fault, then}
 use Rattle.format.specs.Files.{Said, fileLimit, topAt, endAt, fileAt}
-use Rattle.format.specs.FirstFault.{Iff, Settled, First-fault, Ends-early, Follows, Too-long, First-fault-law}
-use Rattle.format.proofs.Prompt.{Kept, Short, Shown, PromptBy, Prompt, prompt-top}
+use Rattle.format.specs.FirstFault.{Settled, First-fault-law}
+use Rattle.format.proofs.Prompt.{Kept, Short, Shown, PromptBy, prompt-top}
 
 -- a file is too long, or read by its head and top node
 file-long : (file : List ℕ) → fileLimit < length file → fileAt file ≡ fault 1 fileLimit

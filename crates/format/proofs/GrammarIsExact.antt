@@ -1,10 +1,8 @@
 -- The reading accepts exactly the files of the grammar.
 use mathlib.Core.Path.{_≡_, subst}
-use mathlib.Core.List.{List}
-use Prim.Native.Nat.{ℕ}
 use lib.ListN.{length}
-use Rattle.format.specs.Outcome.{Outcome, got}
-use Rattle.format.specs.Files.{Said, fileAt}
+use Rattle.format.specs.Outcome.{Outcome}
+use Rattle.format.specs.Files.{Said}
 use Rattle.format.specs.Grammar.{File}
 use Rattle.format.specs.Exact.{Exact}
 use Rattle.format.proofs.Sound.{Reads, sound-file}

@@ -1,8 +1,8 @@
 -- A node by the nodes in it, without the bound on the nesting.
 use mathlib.Core.Path.{_≡_, refl, sym, ap, subst, _∙_}
-use mathlib.Core.Bool.{Bool, true, false, cond, _&&_}
-use mathlib.Core.List.{List, [], _∷_, _++_, map}
-use Prim.Native.Nat.{ℕ, zero, suc, _+_, _-_, _≤_, _<_}
+use mathlib.Core.Bool.{true, false, cond, _&&_}
+use mathlib.Core.List.{List, _++_, map}
+use Prim.Native.Nat.{ℕ, zero, suc, _+_, _-_, _≤_}
 use native.Mathlib.Omega.{arith}
 use native.Mathlib.Nat.{le-refl}
 use lib.Dec.{ltb, eqb}
@@ -12,7 +12,7 @@ use Rattle.format.specs.Outcome.{Outcome, got, fault, then}
 use Rattle.format.specs.Numbers.{byteAt}
 use Rattle.format.specs.Operations.{opOf, resultSize}
 use Rattle.format.specs.Items.{Piece, operation, attestation, itemAt}
-use Rattle.format.specs.Nodes.{Claim, claim, under, moreAt, Reading, belowBy, branchBy, nodeBy, nodeFrom, nodeAt}
+use Rattle.format.specs.Nodes.{under, moreAt, Reading, belowBy, branchBy, nodeBy, nodeFrom, nodeAt}
 use Rattle.format.proofs.Progress.{From, from-then, from-cond, from-weaker, item-from}
 
 -- past the end

@@ -1,12 +1,11 @@
 -- What is read moves the offset on.
-use mathlib.Core.Path.{_≡_, refl}
 use mathlib.Core.Bool.{Bool, true, false, cond, _&&_}
-use mathlib.Core.List.{List, []}
-use Prim.Native.Nat.{ℕ, zero, suc, _+_, _-_, _*_, _^_, _≤_, _<_}
+use mathlib.Core.List.{List}
+use Prim.Native.Nat.{ℕ, zero, suc, _+_, _-_, _*_, _^_, _≤_}
 use native.Mathlib.Omega.{arith}
 use native.Mathlib.Nat.{le-refl}
 use lib.Dec.{ltb, leb, eqb}
-use lib.ListN.{length, getD, take, drop}
+use lib.ListN.{length, take}
 use Rattle.std.proofs.shelf.Tests.{cond-both, eqb-true}
 use Rattle.std.specs.declared.option.Option.{Option}
 use Rattle.std.specs.declared.option.Option.the-variants.{Some, None}
@@ -15,8 +14,8 @@ use Rattle.format.specs.declared.Kind.the-variants.{Sha256, Append, Prepend, R
 use Rattle.format.specs.Outcome.{Outcome, got, fault, then}
 use Rattle.format.specs.Numbers.{byteAt, bytesAt, numberFrom, numberAt, lengthAt, blockAt}
 use Rattle.format.specs.Operations.{kindOf, resultSize, messageLimit, pathLimit, argumentAt}
-use Rattle.format.specs.Attestations.{Att, pending, bitcoin, unknown, pendingTag, bitcoinTag, payloadLimit, addressLimit, same, addressBytes, whole, heightAt, addressAt, contentAt}
-use Rattle.format.specs.Items.{Piece, operation, attestation, operationAt, attestationAt, itemAt}
+use Rattle.format.specs.Attestations.{pendingTag, bitcoinTag, payloadLimit, addressLimit, same, addressBytes, whole, heightAt, addressAt, contentAt}
+use Rattle.format.specs.Items.{operation, operationAt, attestationAt, itemAt}
 
 -- where there is a value, the next offset is at least m
 abbrev pub From : {A : Type 0} → ℕ → Outcome A → Type 0

@@ -17,12 +17,12 @@ use Rattle.format.specs.declared.Kind.the-variants.{Sha256, Append, Prepend, R
 use Rattle.format.specs.Outcome.{Outcome, got, fault, then}
 use Rattle.format.specs.Numbers.{byteAt, bytesAt, numberFrom, numberAt, lengthAt, blockAt}
 use Rattle.format.specs.Operations.{opOf, kindOf, resultSize, messageLimit, pathLimit, argumentAt}
-use Rattle.format.specs.Attestations.{Att, pending, bitcoin, unknown, pendingTag, bitcoinTag, payloadLimit, addressLimit, same, addressBytes, whole, heightAt, addressAt, contentAt}
+use Rattle.format.specs.Attestations.{pending, bitcoin, unknown, pendingTag, bitcoinTag, payloadLimit, addressLimit, same, addressBytes, whole, heightAt, addressAt, contentAt}
 use Rattle.format.specs.Items.{Piece, operation, attestation, operationAt, attestationAt, itemAt}
-use Rattle.format.specs.Nodes.{Claim, claim, under, moreAt, Reading, belowBy, branchBy, nodeBy, nodeAt}
-use Rattle.format.specs.Files.{mark, markAt, Head, head, digestAt, versionAt, headAt, Said, said, topAt}
+use Rattle.format.specs.Nodes.{Claim, claim, under, Reading, belowBy, branchBy, nodeBy, nodeAt}
+use Rattle.format.specs.Files.{mark, markAt, head, digestAt, versionAt, headAt, said, topAt}
 use Rattle.format.proofs.Progress.{From, from-weaker, item-from}
-use Rattle.format.proofs.NodeLaw.{byte-past, item-past, more-past, node-past, node-law, branch-from, node-from}
+use Rattle.format.proofs.NodeLaw.{byte-past, item-past, node-past, node-law, branch-from, node-from}
 
 -- the first m bytes settle what R reads from offset a: with them it is the same, and with fewer the file ends
 pub record Kept {A : Type 0} (R : List ℕ → Outcome A) (a : ℕ) (file : List ℕ) (m : ℕ) : Type 0 where

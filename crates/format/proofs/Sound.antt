@@ -1,7 +1,7 @@
 -- What is read is spelt by the grammar.
 use mathlib.Core.Path.{_≡_, refl, sym, ap, subst, _∙_}
 use mathlib.Core.Bool.{Bool, true, false, cond, _&&_}
-use mathlib.Core.List.{List, [], _∷_, _++_, map, append-assoc}
+use mathlib.Core.List.{List, [], _∷_, _++_, append-assoc}
 use Prim.Native.Nat.{ℕ, zero, suc, _+_, _-_, _*_, _^_, _≤_, _<_, suc-le-suc}
 use native.Mathlib.Omega.{arith}
 use native.Mathlib.Nat.{mul-assoc, mul-comm, add-mul}
@@ -17,12 +17,12 @@ use Rattle.format.specs.declared.Kind.{Kind}
 use Rattle.format.specs.declared.Kind.the-variants.{Sha256, Append, Prepend, Reverse, Hexlify}
 use Rattle.format.specs.Outcome.{Outcome, got, fault, then}
 use Rattle.format.specs.Numbers.{byteAt, bytesAt, numberFrom, numberAt, lengthAt, blockAt}
-use Rattle.format.specs.Operations.{opOf, kindOf, resultSize, messageLimit, pathLimit, argumentAt}
-use Rattle.format.specs.Attestations.{Att, pending, bitcoin, unknown, pendingTag, bitcoinTag, payloadLimit, addressLimit, addressByte, same, addressBytes, whole, heightAt, addressAt, contentAt}
+use Rattle.format.specs.Operations.{kindOf, resultSize, messageLimit, pathLimit, argumentAt}
+use Rattle.format.specs.Attestations.{Att, pending, bitcoin, pendingTag, bitcoinTag, payloadLimit, addressLimit, addressByte, same, addressBytes, whole, heightAt, addressAt, contentAt}
 use Rattle.format.specs.Items.{Piece, operationAt, attestationAt, itemAt}
 use Rattle.format.specs.Items as items
-use Rattle.format.specs.Nodes.{Claim, claim, under, moreAt, Reading, belowBy, branchBy, nodeBy, nodeFrom, nodeAt}
-use Rattle.format.specs.Files.{mark, fileLimit, markAt, Head, head, digestAt, versionAt, headAt, Said, said, topAt, endAt, fileAt}
+use Rattle.format.specs.Nodes.{Claim, moreAt, Reading, belowBy, branchBy, nodeFrom, nodeAt}
+use Rattle.format.specs.Files.{mark, fileLimit, markAt, Head, head, digestAt, headAt, Said, said, topAt, fileAt}
 use Rattle.format.specs.Grammar.{Groups, final, onward, Number, Block, block, Argument, sha256, append, prepend, reverse, hexlify, Content, height, address, other, Branch, Node, attestation, operation, last, another, File, proof}
 
 -- what holds of the value and the next offset, where there are such
