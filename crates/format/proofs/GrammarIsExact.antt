@@ -10,6 +10,7 @@ use Rattle.format.proofs.Complete.{full-file}
 
 pub exact : Exact
 exact file s =
-  let P : Outcome Said → Type 0 = λ o. Reads (λ s n. (n ≡ length file) × File file s) o in
-  ( (λ e. let r : (length file ≡ length file) × File file s = subst P e (sound-file file) in r .1)
-  , full-file file s )
+    let P : Outcome Said → Type 0 = λ o. Reads (λ s n. (n ≡ length file) × File file s) o in (
+      (λ e. let r : (length file ≡ length file) × File file s = subst P e (sound-file file) in r .1),
+      full-file file s,
+    )

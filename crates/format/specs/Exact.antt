@@ -9,4 +9,4 @@ use Rattle.format.specs.Grammar.{File}
 
 abbrev pub Exact : Type 0
 Exact = (file : List ℕ) (s : Said)
-  → (fileAt file ≡ got s (length file) → File file s) × (File file s → fileAt file ≡ got s (length file))
+    → (fileAt file ≡ got s (length file) → File file s) × (File file s → fileAt file ≡ got s (length file))

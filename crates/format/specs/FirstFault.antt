@@ -18,17 +18,17 @@ pub record Settled (file : List ℕ) (n o m : ℕ) : Type 0 where
 -- 3 to 11: a fault of bytes that were read
 abbrev pub First-fault : Type 0
 First-fault = (file : List ℕ) (n o : ℕ) → fileAt file ≡ fault n o → (n ≡ 1 → ⊥) → (n ≡ 2 → ⊥) → (n ≡ 12 → ⊥)
-  → (m : ℕ) × Settled file n o m
+    → (m : ℕ) × Settled file n o m
 
 -- 2: the file ends early, at its end, and so does every front of it
 abbrev pub Ends-early : Type 0
 Ends-early = (file : List ℕ) (o : ℕ) → fileAt file ≡ fault 2 o
-  → (o ≡ length file) × ((k : ℕ) → k ≤ length file → fileAt (take k file) ≡ fault 2 k)
+    → (o ≡ length file) × ((k : ℕ) → k ≤ length file → fileAt (take k file) ≡ fault 2 k)
 
 -- 12: bytes follow a whole file
 abbrev pub Follows : Type 0
 Follows = (file : List ℕ) (m : ℕ)
-  → Iff (fileAt file ≡ fault 12 m) ((length file ≤ fileLimit) × (m < length file) × ((s : Said) × (fileAt (take m file) ≡ got s m)))
+    → Iff (fileAt file ≡ fault 12 m) ((length file ≤ fileLimit) × (m < length file) × ((s : Said) × (fileAt (take m file) ≡ got s m)))
 
 -- 1: the file is longer than the limit
 abbrev pub Too-long : Type 0

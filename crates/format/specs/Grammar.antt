@@ -46,22 +46,22 @@ mutual
   -- an item and the node below it, under depth operations, over a message of size bytes
   pub data Branch : ℕ → ℕ → List ℕ → List Claim → Type 0 where
     attestation : {depth size : ℕ} {tag ps payload : List ℕ} {a : Att}
-      → length tag ≡ 8 → Block 0 payloadLimit ps payload → Content tag payload a
-      → Branch depth size (0 ∷ (tag ++ ps)) (claim [] a ∷ [])
+        → length tag ≡ 8 → Block 0 payloadLimit ps payload → Content tag payload a
+        → Branch depth size (0 ∷ (tag ++ ps)) (claim [] a ∷ [])
     operation : {depth size tag : ℕ} {kind : Kind} {xs argument bs : List ℕ} {cs : List Claim}
-      → kindOf tag ≡ Some kind → depth < pathLimit → Argument kind xs argument → resultSize kind size (length argument) ≤ messageLimit
-      → Node (depth + 1) (resultSize kind size (length argument)) bs cs
-      → Branch depth size (tag ∷ (xs ++ bs)) (map (under (opOf kind argument)) cs)
+        → kindOf tag ≡ Some kind → depth < pathLimit → Argument kind xs argument → resultSize kind size (length argument) ≤ messageLimit
+        → Node (depth + 1) (resultSize kind size (length argument)) bs cs
+        → Branch depth size (tag ∷ (xs ++ bs)) (map (under (opOf kind argument)) cs)
 
   -- branches with ff before each, then a last one without
   pub data Node : ℕ → ℕ → List ℕ → List Claim → Type 0 where
     last : {depth size : ℕ} {bs : List ℕ} {cs : List Claim} → Branch depth size bs cs → Node depth size bs cs
     another : {depth size : ℕ} {xs bs : List ℕ} {cs ds : List Claim}
-      → Branch depth size xs cs → Node depth size bs ds → Node depth size (0xff ∷ (xs ++ bs)) (cs ++ ds)
+        → Branch depth size xs cs → Node depth size bs ds → Node depth size (0xff ∷ (xs ++ bs)) (cs ++ ds)
 
 -- the mark, the version, the file hash tag, the digest and the top node
 pub data File : List ℕ → Said → Type 0 where
   proof : {vs digest bs : List ℕ} {cs : List Claim}
-    → Number vs 1 → length digest ≡ 32 → Node 0 32 bs cs
-    → length (mark ++ (vs ++ (0x08 ∷ (digest ++ bs)))) ≤ fileLimit
-    → File (mark ++ (vs ++ (0x08 ∷ (digest ++ bs)))) (said (head (31 + length vs) digest) cs)
+      → Number vs 1 → length digest ≡ 32 → Node 0 32 bs cs
+      → length (mark ++ (vs ++ (0x08 ∷ (digest ++ bs)))) ≤ fileLimit
+      → File (mark ++ (vs ++ (0x08 ∷ (digest ++ bs)))) (said (head (31 + length vs) digest) cs)
