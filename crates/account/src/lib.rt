@@ -1,0 +1,2 @@
+// What the program says of a proof: text, and nothing that reads or prints.
+pub mod words;
