@@ -1,0 +1,56 @@
+-- The lines of an account.
+use mathlib.Core.Bool.{cond}
+use mathlib.Core.List.{List, [], _∷_, _++_}
+use Prim.Native.Nat.{ℕ, _*_}
+use lib.Chars.{codes}
+use lib.Dec.{eqb}
+use lib.ListN.{length, replicate}
+use lib.Utf8.{encodes}
+use Rattle.std.specs.Written.{decimal}
+use Rattle.format.specs.declared.Kind.{Kind}
+use Rattle.format.specs.declared.Kind.the-variants.{Sha256, Append, Prepend, Reverse, Hexlify}
+use Rattle.format.specs.Attestations.{Att, pending, bitcoin, unknown}
+use Rattle.format.specs.Items.{Piece, operation, attestation}
+use Rattle.format.specs.Counts.{Counts}
+use Rattle.format.specs.Files.{Head}
+use Rattle.account.specs.Words.{hexOf}
+
+abbrev pub kindWord : Kind → List ℕ
+kindWord Sha256 = codes "sha256"
+kindWord Append = codes "append"
+kindWord Prepend = codes "prepend"
+kindWord Reverse = codes "reverse"
+kindWord Hexlify = codes "hexlify"
+
+-- two spaces for each operation above an item
+abbrev pub indent : ℕ → List ℕ
+indent depth = replicate (2 * depth) 32
+
+-- how long a part of the file is, and where it begins
+abbrev pub part : ℕ → ℕ → List ℕ
+part size first = codes " (" ++ (decimal size ++ (codes " at " ++ (decimal first ++ codes ")")))
+
+-- an argument is shown where there is one
+abbrev pub operationLine : ℕ → Kind → List ℕ → ℕ → ℕ → List ℕ
+operationLine depth kind argument offset first =
+  cond (eqb (length argument) 0)
+    (indent depth ++ (decimal offset ++ (codes " " ++ kindWord kind)))
+    (indent depth ++ (decimal offset ++ (codes " " ++ (kindWord kind ++ (codes " [" ++ (hexOf argument ++ (codes "]" ++ part (length argument) first)))))))
+
+-- a calendar's address, a block's height, or a tag and what stands under it
+abbrev pub contentText : Att → List ℕ
+contentText (pending address) = codes "pending [" ++ (encodes address ++ codes "]")
+contentText (bitcoin height) = codes "bitcoin " ++ decimal height
+contentText (unknown tag payload) = codes "unknown " ++ (hexOf tag ++ (codes " [" ++ (hexOf payload ++ codes "]")))
+
+abbrev pub itemLine : ℕ → Piece → List ℕ
+itemLine depth (operation kind argument offset first) = operationLine depth kind argument offset first
+itemLine depth (attestation a payload offset first) =
+  indent depth ++ (decimal offset ++ (codes " " ++ (contentText a ++ part (length payload) first)))
+
+abbrev pub digestLine : Head → List ℕ
+digestLine h = codes "digest " ++ (hexOf (h .digest) ++ (codes " (hash " ++ (decimal (h .hash) ++ codes ")")))
+
+abbrev pub countsLine : Counts → List ℕ
+countsLine c =
+  codes "claims: pending " ++ (decimal (c .pending) ++ (codes ", bitcoin " ++ (decimal (c .bitcoin) ++ (codes ", unknown " ++ decimal (c .unknown)))))
