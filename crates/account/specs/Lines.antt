@@ -49,7 +49,7 @@ itemLine depth (attestation a payload offset first) =
   indent depth ++ (decimal offset ++ (codes " " ++ (contentText a ++ part (length payload) first)))
 
 abbrev pub digestLine : Head → List ℕ
-digestLine h = codes "digest " ++ (hexOf (h .digest) ++ (codes " (hash " ++ (decimal (h .hash) ++ codes ")")))
+digestLine h = codes "digest " ++ (hexOf (h .digest) ++ (codes " (tag at " ++ (decimal (h .hash) ++ codes ")")))
 
 abbrev pub countsLine : Counts → List ℕ
 countsLine c =

@@ -94,7 +94,7 @@ pub fn digest_line(heap: Global, digest: &[u8], hash: usize) -> Result<String, A
     ensures { λ r. ⌜ made r (λ s. string-bytes s ≡ digestLine (head hash (now (digest .entry)))) ⌝ }
 {
     let bytes = hex(heap, digest)?;
-    format!(heap, "digest {bytes} (hash {hash})")
+    format!(heap, "digest {bytes} (tag at {hash})")
 }
 
 // The claims counted by the kind of their attestation.

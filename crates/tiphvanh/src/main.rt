@@ -1,0 +1,54 @@
+// The program: it reads files and prints what the library says of them.
+mod files;
+mod show;
+
+use account::commands::Command;
+use account::commands::parse;
+use files::fail;
+use show::show;
+use std::env;
+use std::error::AnyError;
+
+const VERSION: &str = "tiphvanh 0.1.0";
+
+// The words after the program's name.
+fn words(rt: &LibcRuntime) -> Result<Vec<String>, AnyError> {
+    let mut words = Vec::new(rt.alloc());
+    for word in env::args(rt)?.skip(1) {
+        words.push(word)?;
+    }
+    Ok(words)
+}
+
+fn word(words: &Vec<String>, at: usize) -> &str {
+    match words.get(at) {
+        Some(w) => w.as_str(),
+        None => "",
+    }
+}
+
+fn usage(rt: &LibcRuntime) -> Result<(), AnyError> {
+    println!(rt, "usage: tiphvanh COMMAND")?;
+    println!(rt, "  show PROOF   every item of an OpenTimestamps proof with its offset, and its claims counted")?;
+    println!(rt, "  version      the version of this program")?;
+    println!(rt, "  help         this text")?;
+    println!(rt, "A refused proof ends with `refused NUMBER at OFFSET` and status 1.")?;
+    Ok(())
+}
+
+fn run(rt: &LibcRuntime) -> Result<(), AnyError> {
+    let words = words(rt)?;
+    match parse(words.len(), word(&words, 0), word(&words, 1)) {
+        Command::Usage => usage(rt),
+        Command::Version => {
+            println!(rt, "{VERSION}")?;
+            Ok(())
+        }
+        Command::Show(path) => show(rt, path),
+        Command::Unknown => fail(rt, "not a command: see tiphvanh help"),
+    }
+}
+
+fn main(rt: LibcRuntime) -> Result<(), AnyError> {
+    run(&rt)
+}
