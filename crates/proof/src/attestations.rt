@@ -102,7 +102,7 @@ pub fn address<'a>(file: &'a [u8], first: usize, end: usize) -> Result<&'a [u8],
 }
 
 // Whether every byte may stand in an address.
-pub fn in_address(bytes: &[u8]) -> bool
+fn in_address(bytes: &[u8]) -> bool
     ensures { λ r. ⌜ r ≡ addressBytes (now (bytes .entry)) ⌝ }
 {
     for b in bytes {

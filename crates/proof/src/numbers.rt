@@ -9,7 +9,7 @@ use crate::fault::Fault;
 use crate::reader::Reader;
 
 impl<'a> Reader<'a> {
-    pub fn byte(&mut self) -> Result<u8, Fault>
+    pub(crate) fn byte(&mut self) -> Result<u8, Fault>
         ensures same { λ _. ⌜ now (now (self .exit) .file) ≡ now (now (self .entry) .file) ⌝ }
         ensures reads { λ r. ⌜ outcome (λ b. b) r (now (self .exit) .at) ≡ byteAt (now (now (self .entry) .file)) (now (self .entry) .at) ⌝ }
     {
@@ -22,7 +22,7 @@ impl<'a> Reader<'a> {
     }
 
     // The next n bytes, as a part of the file.
-    pub fn bytes(&mut self, n: usize) -> Result<&'a [u8], Fault>
+    pub(crate) fn bytes(&mut self, n: usize) -> Result<&'a [u8], Fault>
         ensures long { λ r. ⌜ made r (λ s. length (now s) ≡ n) ⌝ }
         ensures behind { λ r. ⌜ made r (λ s. length (now s) ≤ now (self .exit) .at) ⌝ }
         ensures within { λ r. ⌜ made r (λ _. now (self .exit) .at ≤ length (now (now (self .entry) .file))) ⌝ }
@@ -39,7 +39,7 @@ impl<'a> Reader<'a> {
     }
 
     // A number: seven bits in each byte, low bits first, the top bit set on every byte but the last.
-    pub fn number(&mut self) -> Result<u32, Fault>
+    pub(crate) fn number(&mut self) -> Result<u32, Fault>
         ensures same { λ _. ⌜ now (now (self .exit) .file) ≡ now (now (self .entry) .file) ⌝ }
         ensures reads { λ r. ⌜ outcome (λ n. n) r (now (self .exit) .at) ≡ numberAt (now (now (self .entry) .file)) (now (self .entry) .at) ⌝ }
     {
@@ -65,7 +65,7 @@ impl<'a> Reader<'a> {
     }
 
     // A number from least to most.
-    pub fn length(&mut self, least: u32, most: u32) -> Result<u32, Fault>
+    pub(crate) fn length(&mut self, least: u32, most: u32) -> Result<u32, Fault>
         ensures long { λ r. ⌜ made r (λ n. n ≤ most) ⌝ }
         ensures same { λ _. ⌜ now (now (self .exit) .file) ≡ now (now (self .entry) .file) ⌝ }
         ensures reads { λ r. ⌜ outcome (λ n. n) r (now (self .exit) .at) ≡ lengthAt least most (now (now (self .entry) .file)) (now (self .entry) .at) ⌝ }
@@ -79,7 +79,7 @@ impl<'a> Reader<'a> {
     }
 
     // A length from least to most, then that many bytes.
-    pub fn block(&mut self, least: u32, most: u32) -> Result<&'a [u8], Fault>
+    pub(crate) fn block(&mut self, least: u32, most: u32) -> Result<&'a [u8], Fault>
         ensures long { λ r. ⌜ made r (λ s. length (now s) ≤ most) ⌝ }
         ensures behind { λ r. ⌜ made r (λ s. length (now s) ≤ now (self .exit) .at) ⌝ }
         ensures within { λ r. ⌜ made r (λ _. now (self .exit) .at ≤ length (now (now (self .entry) .file))) ⌝ }

@@ -58,7 +58,7 @@ impl<'a> Reader<'a> {
     }
 }
 
-pub fn kind_of(tag: u8) -> Option<Kind>
+pub(crate) fn kind_of(tag: u8) -> Option<Kind>
     ensures { λ r. ⌜ r ≡ kindOf tag ⌝ }
 {
     match tag {
