@@ -1,4 +1,4 @@
-// What a node is made of: operations and attestations, whose arguments and payloads are parts of the file.
+// What a node is made of. Arguments and payloads are lent from the file itself.
 use format::Kind;
 
 // An item, with the offset of its tag and the offset of its argument or payload. A padded length lies

@@ -38,7 +38,7 @@ impl<'a> Reader<'a> {
         Ok(&file[at..at + n])
     }
 
-    // A number: seven bits in each byte, low bits first, the top bit set on every byte but the last.
+    // A number: seven bits to a byte, the lowest first; a byte with its top bit set is not the last.
     pub(crate) fn number(&mut self) -> Result<u32, Fault>
         ensures same { λ _. ⌜ now (now (self .exit) .file) ≡ now (now (self .entry) .file) ⌝ }
         ensures reads { λ r. ⌜ outcome (λ n. n) r (now (self .exit) .at) ≡ numberAt (now (now (self .entry) .file)) (now (self .entry) .at) ⌝ }

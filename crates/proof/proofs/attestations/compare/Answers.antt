@@ -1,7 +1,7 @@
 use borrow.Author.Needs.{needs}
 use native.Mathlib.Omega.{arith}
 use Rattle.format.proofs.ByteSteps.{same-more, same-all, same-lengths}
-use Rattle.proof.proofs.attestations.same.Needs as need
+use Rattle.proof.proofs.attestations.compare.Needs as need
 
 pub returns-then-a-b : need.returns-then-a-b
 returns-then-a-b c = let s = same-lengths (c .args .a .now) (c .args .b .now) (λ e. omega arith) in search needs
