@@ -1,0 +1,4 @@
+-- Lemmas that several answers rest on.
+pub mod Sizes
+pub mod Fronts
+pub mod Digits
