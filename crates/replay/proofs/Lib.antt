@@ -2,3 +2,4 @@
 pub mod Sizes
 pub mod Fronts
 pub mod Digits
+pub mod Steps

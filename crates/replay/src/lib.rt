@@ -5,18 +5,23 @@ ghost use lib.ListN.{length, take, drop};
 ghost use Rattle.format.specs.Operations.{opOf, resultSize};
 ghost use Rattle.replay.specs.Laws.{Sizes-are-lengths, Paths-go-on};
 ghost use Rattle.replay.specs.Messages.{apply};
+ghost use Rattle.replay.specs.Paths.{ops, replayed, replayIn};
 
 mod bytes;
 pub mod guard;
 pub mod link;
 mod operations;
+mod paths;
 
 use format::Kind;
+use link::Link;
 use operations::append;
 use operations::hash;
 use operations::hexlify;
 use operations::prepend;
 use operations::turn;
+use paths::fitting;
+use paths::placed;
 
 // The bytes at the front of an area in which messages are worked: as many as the longest message has.
 pub const ROOM: usize = 4096;
@@ -42,6 +47,20 @@ pub fn apply(kind: Kind, argument: &[u8], area: &mut [u8], size: usize) -> usize
         }
         Kind::Hexlify => hexlify(area, size),
     }
+}
+
+// The message that a path makes of a digest: at the front of the area, with its size as the answer. Where the area has
+// not 4,096 bytes, or a message on the way more, there is no answer and the area stays as it is.
+pub fn replay(path: &[Link], digest: &[u8], area: &mut [u8]) -> Option<usize>
+    ensures { λ r. ⌜ replayed r (now (area .exit)) ≡ replayIn (ops (now (path .entry))) (now (digest .entry)) (now (area .entry)) ⌝ }
+{
+    if area.len() < ROOM {
+        return None;
+    }
+    if !fitting(path, digest.len()) {
+        return None;
+    }
+    Some(placed(path, digest, area))
 }
 
 // A law: the size of a result, as the reader reckons it, is the length of the message that the operation makes.
