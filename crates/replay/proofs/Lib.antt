@@ -3,3 +3,4 @@ pub mod Sizes
 pub mod Fronts
 pub mod Digits
 pub mod Steps
+pub mod Leaving

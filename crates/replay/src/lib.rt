@@ -2,8 +2,9 @@
 ghost use mathlib.Core.Path.{_≡_};
 ghost use Prim.Native.Nat.{_≤_};
 ghost use lib.ListN.{length, take, drop};
+ghost use Rattle.std.specs.Options.{Cases};
 ghost use Rattle.format.specs.Operations.{opOf, resultSize};
-ghost use Rattle.replay.specs.Laws.{Sizes-are-lengths, Paths-go-on};
+ghost use Rattle.replay.specs.Laws.{Sizes-are-lengths, Paths-go-on, Guards-leave};
 ghost use Rattle.replay.specs.Messages.{apply};
 ghost use Rattle.replay.specs.Paths.{ops, replayed, replayIn};
 
@@ -52,7 +53,8 @@ pub fn apply(kind: Kind, argument: &[u8], area: &mut [u8], size: usize) -> usize
 // The message that a path makes of a digest: at the front of the area, with its size as the answer. Where the area has
 // not 4,096 bytes, or a message on the way more, there is no answer and the area stays as it is.
 pub fn replay(path: &[Link], digest: &[u8], area: &mut [u8]) -> Option<usize>
-    ensures { λ r. ⌜ replayed r (now (area .exit)) ≡ replayIn (ops (now (path .entry))) (now (digest .entry)) (now (area .entry)) ⌝ }
+    ensures bound { λ r. ⌜ Cases r (Unit {0}) (λ size. size ≤ 4096) ⌝ }
+    ensures work { λ r. ⌜ replayed r (now (area .exit)) ≡ replayIn (ops (now (path .entry))) (now (digest .entry)) (now (area .entry)) ⌝ }
 {
     if area.len() < ROOM {
         return None;
@@ -73,6 +75,13 @@ pub fn sizes_are_lengths() -> u8
 // A law: to replay a path that goes on is to replay its beginning, and then the rest on what that made.
 pub fn paths_go_on() -> u8
     ensures { λ _. ⌜ Paths-go-on ⌝ }
+{
+    0
+}
+
+// A law: whatever was worked in the first 4,096 bytes of an area, a guard leaves of it what a call has to leave.
+pub fn guards_leave() -> u8
+    ensures { λ _. ⌜ Guards-leave ⌝ }
 {
     0
 }

@@ -66,6 +66,7 @@ fn walked(path: &[Link], area: &mut [u8], size: usize) -> usize
 // on the way.
 pub(crate) fn placed(path: &[Link], digest: &[u8], area: &mut [u8]) -> usize
     requires { ⌜ 4096 ≤ length (now area) ⌝ ∗ ⌜ fits (ops (now path)) (now digest) ≡ true ⌝ }
+    ensures bound { λ r. ⌜ r ≤ 4096 ⌝ }
     ensures value { λ r. ⌜ r ≡ length (replay (ops (now (path .entry))) (now (digest .entry))) ⌝ }
     ensures area { λ _. ⌜ now (area .exit) ≡ holding (replay (ops (now (path .entry))) (now (digest .entry))) (now (area .entry)) ⌝ }
 {

@@ -32,6 +32,7 @@ returns c =
     let is : take n v ≡ replay path d = c .walked-size .ensures .message ∙ ap (replay path) front in
     let kept : drop 4096 v ≡ drop 4096 w = c .walked-size .ensures .kept ∙ ap (drop 4096) (c .put .ensures) ∙ front-drop w d (length d) 4096 refl h in
     record {
+      bound = c .walked-size .ensures .bound;
       value = sym (length-take-le n v (omega arith)) ∙ ap length is;
       area = held w v (c .zero .last .part) (replay path d) 4096 n (c .walked-size .ensures .bound) (omega arith) is kept (c .zero .ensures);
     }
