@@ -5,7 +5,7 @@ use borrow.Author.Count.{below-more}
 use lib.ListN.{length}
 use lib.Seq.{getD-set-same, getD-set-other}
 use Rattle.std.proofs.shelf.Lists.{length-set}
-use Rattle.vectors.proofs.pattern.Needs as need
+use Rattle.vectors.proofs.digests.pattern.Needs as need
 
 pub loop-i-again : need.loop-i-again
 loop-i-again c =
