@@ -39,21 +39,21 @@ module _ (e w : List ℕ) (n j hi lo : ℕ) (small : n * 2 ≤ 4096) (room : 409
     within = omega arith;
     long = length-set (set w (2 * j + 1) lo) (2 * j) hi ∙ length-set w (2 * j + 1) lo ∙ inv .long;
     front =
-      let h : j ≤ 2 * j = omega arith in
-      let k : j ≤ 2 * j + 1 = omega arith in
-      let up : j ≤ j + 1 = omega arith in
-      take-set-le j (set w (2 * j + 1) lo) (2 * j) hi h ∙ take-set-le j w (2 * j + 1) lo k
-      ∙ sym (take-take j (j + 1) w up) ∙ ap (take j) (inv .front) ∙ take-take j (j + 1) e up;
+        let h : j ≤ 2 * j = omega arith in
+        let k : j ≤ 2 * j + 1 = omega arith in
+        let up : j ≤ j + 1 = omega arith in
+        take-set-le j (set w (2 * j + 1) lo) (2 * j) hi h ∙ take-set-le j w (2 * j + 1) lo k
+        ∙ sym (take-take j (j + 1) w up) ∙ ap (take j) (inv .front) ∙ take-take j (j + 1) e up;
     done =
-      let two : 2 * (n - j) ≡ suc (suc (2 * (n - (j + 1)))) = omega arith in
-      let m : j < length (take n e) = omega (arith, length-take-le n e (omega arith)) in
-      ap (λ t. take t (drop (2 * j) (set (set w (2 * j + 1) lo) (2 * j) hi))) two
-      ∙ ap (take (suc (suc (2 * (n - (j + 1)))))) opened
-      ∙ digits-more (take n e) j hi lo (take (2 * (n - (j + 1))) (drop (2 * (j + 1)) w)) m (a ∙ ap (λ t. digit (t / 16)) at-front) (b ∙ ap (λ t. digit (t % 16)) at-front) (inv .done);
+        let two : 2 * (n - j) ≡ suc (suc (2 * (n - (j + 1)))) = omega arith in
+        let m : j < length (take n e) = omega (arith, length-take-le n e (omega arith)) in
+        ap (λ t. take t (drop (2 * j) (set (set w (2 * j + 1) lo) (2 * j) hi))) two
+        ∙ ap (take (suc (suc (2 * (n - (j + 1)))))) opened
+        ∙ digits-more (take n e) j hi lo (take (2 * (n - (j + 1))) (drop (2 * (j + 1)) w)) m (a ∙ ap (λ t. digit (t / 16)) at-front) (b ∙ ap (λ t. digit (t % 16)) at-front) (inv .done);
     kept =
-      let h : 2 * j < 4096 = omega arith in
-      let k : 2 * j + 1 < 4096 = omega arith in
-      drop-set-lt 4096 (set w (2 * j + 1) lo) (2 * j) hi h ∙ drop-set-lt 4096 w (2 * j + 1) lo k ∙ inv .kept;
+        let h : 2 * j < 4096 = omega arith in
+        let k : 2 * j + 1 < 4096 = omega arith in
+        drop-set-lt 4096 (set w (2 * j + 1) lo) (2 * j) hi h ∙ drop-set-lt 4096 w (2 * j + 1) lo k ∙ inv .kept;
   }
 
 pub turning-none : (e : List ℕ) (n : ℕ) → n ≤ length e → Turning e n e n
@@ -63,9 +63,9 @@ turning-none e n h = record {
   long = refl;
   front = refl;
   done =
-    let none : 2 * (n - n) ≡ 0 = omega arith in
-    let m : length (take n e) ≤ n = omega (arith, length-take-le n e h) in
-    ap (λ t. take t (drop (2 * n) e)) none ∙ sym (ap digits (drop-all n (take n e) m));
+      let none : 2 * (n - n) ≡ 0 = omega arith in
+      let m : length (take n e) ≤ n = omega (arith, length-take-le n e h) in
+      ap (λ t. take t (drop (2 * n) e)) none ∙ sym (ap digits (drop-all n (take n e) m));
   kept = refl;
 }
 

@@ -28,6 +28,6 @@ replayed answer area = record { answer = answer; area = area }
 -- the message at the front of the area; or no answer and the area as it was, where the area is too short or a message on the way too long
 abbrev pub replayIn : List Op → List ℕ → List ℕ → Replayed
 replayIn path digest area =
-  cond (leb messageLimit (length area) && fits path digest)
+    cond (leb messageLimit (length area) && fits path digest)
     (replayed (Some (length (replay path digest))) (holding (replay path digest) area))
     (replayed None area)

@@ -3,8 +3,8 @@ ghost use mathlib.Core.Path.{_≡_};
 ghost use Prim.Native.Nat.{_≤_};
 ghost use lib.ListN.{length};
 ghost use Rattle.replay.specs.Areas.{cleared};
-use crate::bytes::zero;
 use crate::ROOM;
+use crate::bytes::zero;
 
 // A lent area, whose first 4,096 bytes are zero once this is let go, on whatever way.
 pub struct Spare<'a>(pub &'a mut [u8]);

@@ -7,7 +7,7 @@ use std::io;
 // The digests of the first 4,096 bytes of an area and of those behind.
 fn print_area(rt: &LibcRuntime, name: &str, area: &[u8]) -> io::Result<()> {
     if area.len() < 4096 {
-        print!(rt, "area {name} short ")?;
+        print!(rt, "area {name} ")?;
         return finish_line(rt, area);
     }
     print!(rt, "area {name} first ")?;

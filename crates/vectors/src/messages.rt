@@ -1,4 +1,10 @@
 // Prints what each operation makes of messages.
+ghost use mathlib.Core.Path.{_≡_};
+ghost use Prim.Native.Nat.{_≤_};
+ghost use lib.ListN.{take};
+ghost use Rattle.std.specs.Options.{Cases};
+ghost use Rattle.format.specs.Operations.{opOf};
+ghost use Rattle.replay.specs.Messages.{apply};
 use crate::digests::finish_line;
 use crate::digests::pattern;
 use format::Kind;
@@ -26,22 +32,41 @@ fn name(kind: Kind) -> &'static str {
     }
 }
 
-// One operation on a message, which is put into the area first. The line has the lengths of argument, message and
-// result, and the digest of the result.
-fn print_applied(rt: &LibcRuntime, kind: Kind, argument: &[u8], message: &[u8]) -> io::Result<()> {
+// One operation on a message, which is put into the area first. None where area, argument or result forbid it.
+fn applied(kind: Kind, argument: &[u8], message: &[u8], area: &mut [u8]) -> Option<usize>
+    ensures bound { λ r. ⌜ Cases r (Unit {0}) (λ n. n ≤ 4096) ⌝ }
+    ensures message { λ r. ⌜ Cases r (Unit {0}) (λ n. take n (now (area .exit)) ≡ apply (opOf kind (now (argument .entry))) (now (message .entry))) ⌝ }
+{
     let size = message.len();
-    if size > 4096 || argument.len() > 4096 || result_size(kind, size as u16, argument.len()) > 4096 {
-        return println!(rt, "apply {} too long", name(kind));
+    if area.len() < 4096 || size > 4096 || argument.len() > 4096 {
+        return None;
     }
-    let mut area = [0xaa; 4200];
+    if result_size(kind, size as u16, argument.len()) > 4096 {
+        return None;
+    }
     let front = &mut area[0..size];
     front.copy_from_slice(message);
-    let now = replay::apply(kind, argument, &mut area, size);
-    print!(rt, "apply {} {} {size} {now} ", name(kind), argument.len())?;
-    if now <= 64 {
-        print_bytes(rt, &area[0..now])?;
+    Some(replay::apply(kind, argument, area, size))
+}
+
+// The lengths of argument, message and result, the result where it is short, and its digest.
+fn print_applied(rt: &LibcRuntime, kind: Kind, argument: &[u8], message: &[u8]) -> io::Result<()> {
+    let mut area = [0xaa; 4200];
+    print!(
+        rt,
+        "apply {} {} {} ",
+        name(kind),
+        argument.len(),
+        message.len()
+    )?;
+    let Some(size) = applied(kind, argument, message, &mut area) else {
+        return println!(rt, "none");
+    };
+    print!(rt, "{size} ")?;
+    if size <= 64 {
+        print_bytes(rt, &area[0..size])?;
     }
-    finish_line(rt, &area[0..now])
+    finish_line(rt, &area[0..size])
 }
 
 fn print_each(rt: &LibcRuntime, argument: &[u8], message: &[u8]) -> io::Result<()> {

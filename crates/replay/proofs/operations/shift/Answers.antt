@@ -16,7 +16,7 @@ returns c =
     let h : length p ≡ n - 0 = c .rotate-right .ensures .len ∙ length-take-le (n - 0) w (omega arith) in
     record {
       message = λ front back is long.
-        front-take w p (n - 0) n (h ∙ sub-zero n)
-        ∙ turned p (take (n - 0) w) front back (c .args .n) (ap (λ t. take t w) (sub-zero n) ∙ is) long (c .rotate-right .ensures .after);
+          front-take w p (n - 0) n (h ∙ sub-zero n)
+          ∙ turned p (take (n - 0) w) front back (c .args .n) (ap (λ t. take t w) (sub-zero n) ∙ is) long (c .rotate-right .ensures .after);
       kept = front-drop w p (n - 0) 4096 h (omega arith);
     }

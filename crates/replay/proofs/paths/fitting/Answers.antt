@@ -18,13 +18,11 @@ returns-in-None c = λ message long.
     let i = c .loop-i .i in
     let n = grown (link-at path i) (c .loop-i .size) in
     let over = leb-false n 4096 (no-size (leb n 4096) n (c .in-None .ensures tt)) in
-    sym (
-      fits-sized path message
-      ∙ ap (sized path) long
-      ∙ sym (c .loop-i .inv .1)
-      ∙ sized-more path i (c .loop-i .size) (c .loop-i-test .taken) (c .loop-i .inv .0)
-      ∙ sized-long (drop (i + 1) path) n over
-    )
+    sym (sized-long (drop (i + 1) path) n over)
+    ∙ sym (sized-more path i (c .loop-i .size) (c .loop-i-test .taken) (c .loop-i .inv .0))
+    ∙ c .loop-i .inv .1
+    ∙ ap (sized path) (sym long)
+    ∙ sym (fits-sized path message)
 
 pub loop-i-again : need.loop-i-again
 loop-i-again c =
@@ -33,21 +31,18 @@ loop-i-again c =
     let n = grown (link-at path i) (c .loop-i .size) in
     let is = some-size (leb n 4096) n (c .in-Some .next) (c .in-Some .ensures tt) in
     let within = leb-true n 4096 (is .0) in
-    let same = is .1 in
-    (
+    let same = is .1 in (
       omega arith,
       ap (sized (drop (i + 1) path)) same
-      ∙ sym (sized-more path i (c .loop-i .size) (c .loop-i-test .taken) (c .loop-i .inv .0))
-      ∙ c .loop-i .inv .1,
+          ∙ sym (sized-more path i (c .loop-i .size) (c .loop-i-test .taken) (c .loop-i .inv .0))
+          ∙ c .loop-i .inv .1,
     )
 
 pub returns : need.returns
 returns c = λ message long.
     let path = c .args .path .now in
-    sym (
-      fits-sized path message
-      ∙ ap (sized path) long
-      ∙ sym (c .loop-i .inv .1)
-      ∙ at-drop-all (λ t. sized t (c .loop-i .size)) path (c .loop-i .i) (c .loop-i-test .left)
-      ∙ le-leb (c .loop-i .size) 4096 (c .loop-i .inv .0)
-    )
+    sym (le-leb (c .loop-i .size) 4096 (c .loop-i .inv .0))
+    ∙ sym (at-drop-all (λ t. sized t (c .loop-i .size)) path (c .loop-i .i) (c .loop-i-test .left))
+    ∙ c .loop-i .inv .1
+    ∙ ap (sized path) (sym long)
+    ∙ sym (fits-sized path message)

@@ -26,15 +26,14 @@ loop-i-again c =
     let rest = drop (i + 1) path in
     let long : length m ≡ n = length-take-le n (c .loop-i .area) (omega arith) in
     let within : grown (link-at path i) n ≤ 4096 = grown-more path i m n (c .loop-i-test .taken) long (c .loop-i .inv .3) in
-    let value = c .apply-size .ensures .value in
-    (
+    let value = c .apply-size .ensures .value in (
       omega arith,
       c .apply-size .ensures .kept ∙ c .loop-i .inv .1,
       omega arith,
       ap (fits (ops rest)) (c .apply-size .ensures .message) ∙ fits-more path i m (c .loop-i-test .taken) (c .loop-i .inv .3),
       ap (replay (ops rest)) (c .apply-size .ensures .message)
-      ∙ sym (replay-more path i m (c .loop-i-test .taken))
-      ∙ c .loop-i .inv .4,
+          ∙ sym (replay-more path i m (c .loop-i-test .taken))
+          ∙ c .loop-i .inv .4,
     )
 
 pub returns : need.returns
