@@ -16,5 +16,5 @@ other = b"\xf2" + b"\xf3" + b"\x08" + r.bitcoin(0)
 proof = r.file(r.node(console, laptop, factory, other), digest)
 
 open("crates/tiphvanh/data/record.ots", "wb").write(proof)
-open("crates/tiphvanh/stdout", "w").write("\n".join(r.account(proof)) + "\n")
+open("crates/tiphvanh/stdout", "w").write("\n".join(r.account(proof, messages=True)) + "\n")
 print(len(proof), "bytes")

@@ -1,5 +1,6 @@
 """The rules of docs/FORMAT.md, written once more in Python, apart from the program: for making test files and what is
 expected of them."""
+import hashlib
 
 MARK = bytes.fromhex("004f70656e54696d657374616d7073000050726f6f6600bf89e2e884e89294")
 PENDING = bytes.fromhex("83dfe30d2ef90c8e")
@@ -174,9 +175,22 @@ def counts(items):
     return said.count("pending"), said.count("bitcoin"), said.count("unknown")
 
 
-def account(data):
+def apply(kind, argument, message):
+    if kind == "sha256":
+        return hashlib.sha256(message).digest()
+    if kind == "append":
+        return message + argument
+    if kind == "prepend":
+        return argument + message
+    if kind == "reverse":
+        return message[::-1]
+    return message.hex().encode()
+
+
+def account(data, messages=False):
     """What `show` prints of an accepted file."""
     digest, tag, items = read(data)
+    above = [digest]
     lines = [f"digest {digest.hex()} (tag at {tag})"]
     for item in items:
         lead = "  " * item[0] + f"{item[1]} "
@@ -189,7 +203,14 @@ def account(data):
             else:
                 text = f"unknown {said[1].hex()} [{said[2].hex()}]"
             lines.append(f"{lead}{text} ({len(payload)} at {first})")
-        elif item[3]:
+            if messages:
+                message = above[item[0]]
+                lines.append("  " * item[0] + f"  message {message.hex()}")
+                if said[0] == "bitcoin":
+                    lines.append("  " * item[0] + f"  root {message[::-1].hex()}")
+            continue
+        above[item[0] + 1 :] = [apply(item[2], item[3], above[item[0]])]
+        if item[3]:
             lines.append(f"{lead}{item[2]} [{item[3].hex()}] ({len(item[3])} at {item[4]})")
         else:
             lines.append(f"{lead}{item[2]}")

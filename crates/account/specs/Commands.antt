@@ -6,25 +6,28 @@ use lib.Chars.{codes}
 use lib.Dec.{eqb}
 use Rattle.format.specs.Attestations.{same}
 use Rattle.account.specs.declared.commands.Command.{Command}
-use Rattle.account.specs.declared.commands.Command.the-variants.{Usage, Version, Show, Unknown}
+use Rattle.account.specs.declared.commands.Command.the-variants.{Usage, Version, Show, Messages, Unknown}
 
 pub data Asked : Type 0 where
   usage : Asked
   version : Asked
   shown : List ℕ → Asked
+  messages : List ℕ → Asked
   unknown : Asked
 
 abbrev pub asked : Command → Asked
 asked Usage = usage
 asked Version = version
 asked (Show path) = shown (path .now)
+asked (Messages path) = messages (path .now)
 asked Unknown = unknown
 
--- of count words, the first and the second
-abbrev pub askedBy : ℕ → List ℕ → List ℕ → Asked
-askedBy count first second =
+-- of count words, the first three
+abbrev pub askedBy : ℕ → List ℕ → List ℕ → List ℕ → Asked
+askedBy count first second third =
   cond (eqb count 0) usage
   (cond (eqb count 1 && same first (codes "help")) usage
   (cond (eqb count 1 && same first (codes "version")) version
   (cond (eqb count 2 && same first (codes "show")) (shown second)
-  unknown)))
+  (cond (eqb count 3 && (same first (codes "show") && same second (codes "--messages"))) (messages third)
+  unknown))))

@@ -1,6 +1,6 @@
 -- The lines of an account.
 use mathlib.Core.Bool.{cond}
-use mathlib.Core.List.{List, [], _∷_, _++_}
+use mathlib.Core.List.{List, [], _∷_, _++_, reverse}
 use Prim.Native.Nat.{ℕ, _*_}
 use lib.Chars.{codes}
 use lib.Dec.{eqb}
@@ -50,6 +50,14 @@ itemLine depth (attestation a payload offset first) =
 
 abbrev pub digestLine : Head → List ℕ
 digestLine h = codes "digest " ++ (hexOf (h .digest) ++ (codes " (tag at " ++ (decimal (h .hash) ++ codes ")")))
+
+-- a message under an attestation
+abbrev pub messageLine : ℕ → List ℕ → List ℕ
+messageLine depth message = indent depth ++ (codes "  message " ++ hexOf message)
+
+-- the same from its last byte to its first, as block explorers print roots
+abbrev pub rootLine : ℕ → List ℕ → List ℕ
+rootLine depth message = indent depth ++ (codes "  root " ++ hexOf (reverse message))
 
 abbrev pub countsLine : Counts → List ℕ
 countsLine c =

@@ -11,12 +11,14 @@ pub enum Command<'a> {
     Version,
     // the account of the proof at a path
     Show(&'a str),
+    // the same, with the message under each attestation
+    Messages(&'a str),
     Unknown,
 }
 
-// Of count words, the first and the second; those that are not there are empty.
-pub fn parse<'a>(count: usize, first: &str, second: &'a str) -> Command<'a>
-    ensures { λ r. ⌜ asked r ≡ askedBy count (now (first .entry)) (now (second .entry)) ⌝ }
+// Of count words, the first three; those that are not there are empty.
+pub fn parse<'a>(count: usize, first: &str, second: &'a str, third: &'a str) -> Command<'a>
+    ensures { λ r. ⌜ asked r ≡ askedBy count (now (first .entry)) (now (second .entry)) (now (third .entry)) ⌝ }
 {
     if count == 0 {
         return Command::Usage;
@@ -30,6 +32,9 @@ pub fn parse<'a>(count: usize, first: &str, second: &'a str) -> Command<'a>
     }
     if count == 2 && same(word, "show".as_bytes()) {
         return Command::Show(second);
+    }
+    if count == 3 && same(word, "show".as_bytes()) && same(second.as_bytes(), "--messages".as_bytes()) {
+        return Command::Messages(third);
     }
     Command::Unknown
 }

@@ -1,16 +1,18 @@
 // The lines of an account: one for the digest, one for each item, one for the counts.
 ghost use mathlib.Core.Path.{_≡_};
-ghost use mathlib.Core.List.{_++_};
+ghost use mathlib.Core.List.{_++_, reverse};
 ghost use Prim.Native.Nat.{_+_, _*_, _<_};
 ghost use lib.Chars.{codes};
 ghost use lib.ListN.{length, replicate};
 ghost use Rattle.std.specs.Of.String.{string-bytes};
+ghost use Rattle.std.specs.Of.Vec.{vec-items};
 ghost use Rattle.std.specs.Vec.{made};
 ghost use Rattle.std.specs.Written.{decimal};
 ghost use Rattle.proof.specs.Pieces.{piece, attested};
 ghost use Rattle.format.specs.Files.{head};
 ghost use Rattle.proof.specs.Counted.{counted};
-ghost use Rattle.account.specs.Lines.{kindWord, indent, part as partText, operationLine, contentText, itemLine, digestLine, countsLine};
+ghost use Rattle.account.specs.Words.{hexOf};
+ghost use Rattle.account.specs.Lines.{kindWord, indent, part as partText, operationLine, contentText, itemLine, digestLine, messageLine, rootLine, countsLine};
 use crate::words::hex;
 use crate::words::spaces;
 use crate::words::text;
@@ -95,6 +97,38 @@ pub fn digest_line(heap: Global, digest: &[u8], hash: usize) -> Result<String, A
 {
     let bytes = hex(heap, digest)?;
     format!(heap, "digest {bytes} (tag at {hash})")
+}
+
+// The message that an attestation is of.
+pub fn message_line(heap: Global, depth: u8, message: &[u8]) -> Result<String, AllocError>
+    ensures { λ r. ⌜ made r (λ s. string-bytes s ≡ messageLine depth (now (message .entry))) ⌝ }
+{
+    let indent = spaces(heap, 2 * depth as usize)?;
+    let bytes = hex(heap, message)?;
+    format!(heap, "{indent}  message {bytes}")
+}
+
+// The bytes from last to first.
+fn mirrored(heap: Global, bytes: &[u8]) -> Result<Vec<u8>, AllocError>
+    ensures { λ r. ⌜ made r (λ v. vec-items v ≡ reverse (now (bytes .entry))) ⌝ }
+{
+    bytes.iter().rev().copied().collect(heap)
+}
+
+fn mirrored_hex(heap: Global, bytes: &[u8]) -> Result<String, AllocError>
+    ensures { λ r. ⌜ made r (λ s. string-bytes s ≡ hexOf (reverse (now (bytes .entry)))) ⌝ }
+{
+    let mirror = mirrored(heap, bytes)?;
+    hex(heap, mirror.as_slice())
+}
+
+// The same from its last byte to its first, as block explorers print roots.
+pub fn root_line(heap: Global, depth: u8, message: &[u8]) -> Result<String, AllocError>
+    ensures { λ r. ⌜ made r (λ s. string-bytes s ≡ rootLine depth (now (message .entry))) ⌝ }
+{
+    let indent = spaces(heap, 2 * depth as usize)?;
+    let bytes = mirrored_hex(heap, message)?;
+    format!(heap, "{indent}  root {bytes}")
 }
 
 // The claims counted by the kind of their attestation.

@@ -30,6 +30,8 @@ fn word(words: &Vec<String>, at: usize) -> &str {
 fn usage(rt: &LibcRuntime) -> Result<(), AnyError> {
     println!(rt, "usage: tiphvanh COMMAND")?;
     println!(rt, "  show PROOF   every item of an OpenTimestamps proof with its offset, and its claims counted")?;
+    println!(rt, "  show --messages PROOF")?;
+    println!(rt, "               the same, with the message that each attestation is of")?;
     println!(rt, "  version      the version of this program")?;
     println!(rt, "  help         this text")?;
     println!(rt, "A refused proof ends with `refused NUMBER at OFFSET` and status 1.")?;
@@ -38,13 +40,14 @@ fn usage(rt: &LibcRuntime) -> Result<(), AnyError> {
 
 fn run(rt: &LibcRuntime) -> Result<(), AnyError> {
     let words = words(rt)?;
-    match parse(words.len(), word(&words, 0), word(&words, 1)) {
+    match parse(words.len(), word(&words, 0), word(&words, 1), word(&words, 2)) {
         Command::Usage => usage(rt),
         Command::Version => {
             println!(rt, "{VERSION}")?;
             Ok(())
         }
-        Command::Show(path) => show(rt, path),
+        Command::Show(path) => show(rt, path, false),
+        Command::Messages(path) => show(rt, path, true),
         Command::Unknown => fail(rt, "not a command: see tiphvanh help"),
     }
 }
