@@ -1,0 +1,11 @@
+pub mod Tree
+pub mod Order
+pub mod Union
+pub mod Bytes
+pub mod Lawful
+pub mod Size
+pub mod Onto
+pub mod Gathered
+pub mod Canonical
+pub mod Laws
+pub mod Examples
