@@ -73,12 +73,15 @@ attOrder a b =
     (thenBy (rank (kindOfAtt a) (kindOfAtt b))
     (thenBy (rank (heightOf a) (heightOf b)) (byteOrder (bytesOf a) (bytesOf b))))
 
--- operation by operation, a beginning before its continuation
+-- lists of anything ordered compare in the same way
+abbrev pub listOrder : {A : Type 0} → (A → A → Ordering) → List A → List A → Ordering
+listOrder order [] [] = Equal
+listOrder order [] (y ∷ ys) = Less
+listOrder order (x ∷ xs) [] = Greater
+listOrder order (x ∷ xs) (y ∷ ys) = thenBy (order x y) (listOrder order xs ys)
+
 abbrev pub pathOrder : List Op → List Op → Ordering
-pathOrder [] [] = Equal
-pathOrder [] (p ∷ ps) = Less
-pathOrder (o ∷ os) [] = Greater
-pathOrder (o ∷ os) (p ∷ ps) = thenBy (opOrder o p) (pathOrder os ps)
+pathOrder os ps = listOrder opOrder os ps
 
 -- the written order: by path, so that attestations stand before the branches of their node, then by attestation
 abbrev pub claimOrder : Claim → Claim → Ordering
