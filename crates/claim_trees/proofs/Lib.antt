@@ -4,3 +4,8 @@ pub mod Kept
 pub mod Members
 pub mod Listing
 pub mod Unique
+pub mod Ascending
+pub mod Gathering
+pub mod Fitting
+pub mod Unions
+pub mod Lengths
