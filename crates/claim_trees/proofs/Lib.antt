@@ -9,3 +9,5 @@ pub mod Gathering
 pub mod Fitting
 pub mod Unions
 pub mod Lengths
+pub mod Shortest
+pub mod Spelling

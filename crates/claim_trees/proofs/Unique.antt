@@ -68,7 +68,7 @@ or-beyond o p n c s P v (inl k) = inl (k .0)
 or-beyond o p n c s P v (inr k) = inr (beyond p s (v .first) (v .rest) o P k)
 
 -- a claim below each operation
-witness : (m : List Att) (t : Tree) → filled m t ≡ true → sorted t ≡ true → (os : List Op) × (a : Att) × Claims os a m t
+pub witness : (m : List Att) (t : Tree) → filled m t ≡ true → sorted t ≡ true → (os : List Op) × (a : Att) × Claims os a m t
 witness (a ∷ m) t h s = ([], a, inl refl)
 witness [] end h s = absurd (true≢false (sym h))
 witness [] (more o n b r) h s =
