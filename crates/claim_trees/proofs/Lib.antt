@@ -11,3 +11,5 @@ pub mod Unions
 pub mod Lengths
 pub mod Shortest
 pub mod Spelling
+pub mod Repeats
+pub mod Sizes

@@ -1,0 +1,242 @@
+-- The size of a tree is that of its claims, and the size of a union is found by walking both.
+use mathlib.Core.Path.{_≡_, refl, sym, ap, subst, _∙_}
+use mathlib.Core.Bool.{true}
+use mathlib.Core.List.{List, [], _∷_, _++_, map}
+use mathlib.Core.Logic.{_⊎_, inl, inr, ⊎-elim}
+use Prim.Native.Nat.{ℕ, suc, _+_, _≤_}
+use native.Mathlib.Omega.{arith}
+use lib.ListN.{length}
+use Rattle.std.proofs.shelf.Lists.{length-append, length-map}
+use Rattle.std.specs.declared.cmp.Ordering.{Ordering}
+use Rattle.std.specs.declared.cmp.Ordering.the-variants.{Less, Equal, Greater}
+use Rattle.format.specs.Operations.{Op}
+use Rattle.format.specs.Attestations.{Att}
+use Rattle.format.specs.Nodes.{Claim, claim, under}
+use Rattle.claim_trees.specs.Tree.{Tree, end, more, here, through, claims, In, Alike, Through, Claims}
+use Rattle.claim_trees.specs.Order.{argumentOf, opOrder, attOrder, before, ascends, sorted}
+use Rattle.claim_trees.specs.Union.{choose, place, unite, graft, unify}
+use Rattle.claim_trees.specs.Bytes.{payloadOf}
+use Rattle.claim_trees.specs.Size.{Size, size, Apart, Lists, Begins, total, lastArgument, payloadLength, Sized, plus, opSize, attSize, marksSize, branchesSize, sizeOf, placeSize, uniteSize, graftSize, unifySize, Size-law}
+use Rattle.claim_trees.proofs.Orders.{ops, claims-ordered, less-itself}
+use Rattle.claim_trees.proofs.Listing.{in-left, in-right, in-either, listed}
+use Rattle.claim_trees.proofs.Gathering.{in-map, map-in, alike-same}
+use Rattle.claim_trees.proofs.Kept.{Parts, parts}
+use Rattle.claim_trees.proofs.Unique.{witness, beyond}
+use Rattle.claim_trees.proofs.Ascending.{written-rising}
+use Rattle.claim_trees.proofs.Repeats.{total-append, lists-total, lists-length, apart-append, apart-map, rising-apart}
+
+-- ---- the beginnings of the paths of a tree
+
+beginnings : Tree → List (List Op)
+beginnings end = []
+beginnings (more o m b r) = (o ∷ []) ∷ (map (λ os. o ∷ os) (beginnings b) ++ beginnings r)
+
+-- a path along o and os goes on to a claim
+record Goes (o : Op) (os : List Op) (t : Tree) : Type 0 where
+  rest : List Op
+  attestation : Att
+  there : Through o (Claims (os ++ rest) attestation) t
+
+cons-parts : {o p : Op} {os ps : List Op} → o ∷ os ≡ p ∷ ps → (o ≡ p) × (os ≡ ps)
+cons-parts e = ((cc), (cc))
+
+nothing-is : {A : Type 0} {o : Op} {os : List Op} → [] ≡ o ∷ os → A
+nothing-is e = absurd (let z : _≡_ {A = ℕ} 0 1 = cc in omega arith)
+
+not-empty : (t : Tree) → In [] (beginnings t) → ⊥
+unfolding beginnings
+not-empty end i = i
+not-empty (more o m b r) (inl e) = nothing-is e
+not-empty (more o m b r) (inr i) = ⊎-elim
+    (λ j. let e = map-in (λ os. o ∷ os) [] (beginnings b) j in nothing-is (e .1 .1))
+    (not-empty r)
+    (in-either [] (map (λ os. o ∷ os) (beginnings b)) (beginnings r) i)
+
+goes-below : (o p : Op) (os xs : List Op) (m : List Att) (b r : Tree) → o ≡ p → os ≡ xs → (rest : List Op) (a : Att) → Claims (xs ++ rest) a m b → Goes o os (more p m b r)
+goes-below o p os xs m b r e d rest a k = record { rest = rest; attestation = a; there = inl (e, subst (λ z. Claims (z ++ rest) a m b) (sym d) k) }
+
+module _ (p : Op) (m : List Att) (b r : Tree) where
+  -- along a beginning of the node below
+  goes-on : ((o : Op) (os : List Op) → In (o ∷ os) (beginnings b) → Goes o os b) → (o : Op) (os xs : List Op) → o ≡ p → os ≡ xs → In xs (beginnings b) → Goes o os (more p m b r)
+  goes-on h o os [] e d i = absurd (not-empty b i)
+  goes-on h o os (q ∷ xs) e d i = let g = h q xs i in goes-below o p os (q ∷ xs) m b r e d (g .rest) (g .attestation) (g .there)
+
+goes : (t : Tree) → sorted t ≡ true → (o : Op) (os : List Op) → In (o ∷ os) (beginnings t) → Goes o os t
+unfolding beginnings
+goes end s o os i = absurd i
+goes (more p m b r) s o os (inl e) =
+    let w = parts p m b r s in
+    let c = witness m b (w .some) (w .below) in
+    let d = cons-parts e in
+    goes-below o p os [] m b r (d .0) (d .1) (c .0) (c .1) (c .2)
+goes (more p m b r) s o os (inr i) =
+    let w = parts p m b r s in
+    ⊎-elim
+    (λ j. let e = map-in (λ os. p ∷ os) (o ∷ os) (beginnings b) j in let d = cons-parts (e .1 .1) in
+      goes-on p m b r (goes b (w .below)) o os (e .0) (d .0) (d .1) (e .1 .0))
+    (λ j. let g = goes r (w .rest) o os j in record { rest = g .rest; attestation = g .attestation; there = inr (g .there) })
+    (in-either (o ∷ os) (map (λ os. p ∷ os) (beginnings b)) (beginnings r) i)
+
+begun : (t : Tree) (o : Op) (os rest : List Op) (a : Att) → Through o (Claims (os ++ rest) a) t → In (o ∷ os) (beginnings t)
+unfolding beginnings
+begun end o os rest a k = absurd k
+begun (more p m b r) o [] rest a (inl k) = inl (ap (λ z. z ∷ []) (k .0))
+begun (more p m b r) o (q ∷ os) rest a (inl k) =
+    inr (in-left (o ∷ (q ∷ os)) (map (λ os. p ∷ os) (beginnings b)) (beginnings r)
+    (subst (λ z. In (z ∷ (q ∷ os)) (map (λ os. p ∷ os) (beginnings b))) (sym (k .0)) (in-map (λ os. p ∷ os) (q ∷ os) (beginnings b) (begun b q os rest a (k .1)))))
+begun (more p m b r) o os rest a (inr k) = inr (in-right (o ∷ os) (map (λ os. p ∷ os) (beginnings b)) (beginnings r) (begun r o os rest a k))
+
+begins : (m : List Att) (t : Tree) → sorted t ≡ true → (b : List Op) → In b (beginnings t) → Begins b (claims m t)
+begins m t s [] i = absurd (not-empty t i)
+begins m t s (o ∷ os) i =
+    let g = goes t s o os i in
+    (claim (o ∷ (os ++ g .rest)) (g .attestation), g .rest, listed (o ∷ (os ++ g .rest)) (g .attestation) m t .1 (g .there), refl)
+
+begins-back : (m : List Att) (t : Tree) (b : List Op) → Begins b (claims m t) → In b (beginnings t)
+begins-back m t [] k = absurd k
+begins-back m t (o ∷ os) k =
+    let c = k .0 in let rest = k .1 in
+    begun t o os rest (c .attestation)
+    (listed (o ∷ (os ++ rest)) (c .attestation) m t .0 (subst (λ z. In (claim z (c .attestation)) (claims m t)) (k .3) (k .2)))
+
+beginnings-apart : (t : Tree) → sorted t ≡ true → Apart (beginnings t)
+unfolding beginnings
+beginnings-apart end s = tt
+beginnings-apart (more o m b r) s =
+    let w = parts o m b r s in
+    let far : (os : List Op) → In (o ∷ os) (beginnings r) → ⊥ = λ os i.
+      let g = goes r (w .rest) o os i in less-itself ops o (beyond o r (w .first) (w .rest) o (Claims (os ++ g .rest) (g .attestation)) (g .there)) in
+    ( (λ i. ⊎-elim
+        (λ j. let e = map-in (λ os. o ∷ os) (o ∷ []) (beginnings b) j in not-empty b (subst (λ z. In z (beginnings b)) (sym (cons-parts (e .1 .1) .1)) (e .1 .0)))
+        (far [])
+        (in-either (o ∷ []) (map (λ os. o ∷ os) (beginnings b)) (beginnings r) i))
+    , apart-append (map (λ os. o ∷ os) (beginnings b)) (beginnings r)
+        (apart-map (λ os. o ∷ os) (λ x y e. cons-parts e .1) (beginnings b) (beginnings-apart b (w .below)))
+        (beginnings-apart r (w .rest))
+        (λ x i j. let e = map-in (λ os. o ∷ os) x (beginnings b) i in far (e .0) (subst (λ z. In z (beginnings r)) (e .1 .1) j)) )
+
+-- ---- counts
+
+marks-operations : (m : List Att) → marksSize m .operations ≡ 0
+marks-operations [] = refl
+marks-operations (a ∷ m) = let h = marks-operations m in omega arith
+
+count-operations : (t : Tree) → branchesSize t .operations ≡ length (beginnings t)
+unfolding beginnings
+count-operations end = refl
+count-operations (more o m b r) =
+    let x = marks-operations m in let y = count-operations b in let z = count-operations r in
+    let e = length-append (map (λ os. o ∷ os) (beginnings b)) (beginnings r) in
+    let d = length-map (beginnings b) (λ os. o ∷ os) in omega arith
+
+marks-attestations : (m : List Att) → marksSize m .attestations ≡ length (map here m)
+marks-attestations [] = refl
+marks-attestations (a ∷ m) = let h = marks-attestations m in omega arith
+
+count-attestations : (t : Tree) → branchesSize t .attestations ≡ length (through t)
+unfolding through
+count-attestations end = refl
+count-attestations (more o m b r) =
+    let x = marks-attestations m in let y = count-attestations b in let z = count-attestations r in
+    let e = length-append (map (under o) (claims m b)) (through r) in
+    let d = length-map (claims m b) (under o) in
+    let f = length-append (map here m) (through b) in omega arith
+
+total-under : (o : Op) (cs : List Claim) → total payloadLength (map (under o) cs) ≡ total payloadLength cs
+total-under o [] = refl
+total-under o (c ∷ cs) = let h = total-under o cs in omega arith
+
+total-cons : (o : Op) (xs : List (List Op)) → (In [] xs → ⊥) → total lastArgument (map (λ os. o ∷ os) xs) ≡ total lastArgument xs
+total-cons o [] h = refl
+total-cons o ([] ∷ xs) h = absurd (h (inl refl))
+total-cons o ((p ∷ ps) ∷ xs) h = let k = total-cons o xs (λ i. h (inr i)) in omega arith
+
+marks-bytes : (m : List Att) → marksSize m .bytes ≡ total payloadLength (map here m)
+marks-bytes [] = refl
+marks-bytes (a ∷ m) = let h = marks-bytes m in omega arith
+
+count-bytes : (t : Tree) → branchesSize t .bytes ≡ total lastArgument (beginnings t) + total payloadLength (through t)
+unfolding beginnings through
+count-bytes end = refl
+count-bytes (more o m b r) =
+    let x = marks-bytes m in let y = count-bytes b in let z = count-bytes r in
+    let e = total-append lastArgument (map (λ os. o ∷ os) (beginnings b)) (beginnings r) in
+    let d = total-cons o (beginnings b) (not-empty b) in
+    let f = total-append payloadLength (map (under o) (claims m b)) (through r) in
+    let g = total-under o (claims m b) in
+    let h = total-append payloadLength (map here m) (through b) in omega arith
+
+-- ---- the size of a tree
+
+pub tree-sized : (m : List Att) (t : Tree) → ascends m ≡ true → sorted t ≡ true → Sized (claims m t) (sizeOf m t)
+tree-sized m t h s = record {
+  beginnings = beginnings t;
+  members = claims m t;
+  lists-beginnings = record { members = λ b. (begins m t s b, begins-back m t b); apart = beginnings-apart t s };
+  lists-members = record { members = alike-same (claims m t); apart = rising-apart claims-ordered (claims m t) (written-rising m t h s) };
+  operations = let x = marks-operations m in let y = count-operations t in omega arith;
+  attestations = let x = marks-attestations m in let y = count-attestations t in let e = length-append (map here m) (through t) in omega arith;
+  bytes = let x = marks-bytes m in let y = count-bytes t in let e = total-append payloadLength (map here m) (through t) in omega arith;
+}
+
+-- ---- one size for a set
+
+begins-alike : (cs ds : List Claim) → Alike cs ds → (b : List Op) → Begins b cs → Begins b ds
+begins-alike cs ds h [] k = k
+begins-alike cs ds h (o ∷ os) k = (k .0, k .1, h (k .0) .0 (k .2), k .3)
+
+pub one-size : (cs ds : List Claim) (s t : Size) → Alike cs ds → Sized cs s → Sized ds t → s ≡ t
+one-size cs ds s t h x y =
+    let back : Alike ds cs = λ c. (h c .1, h c .0) in
+    let f = lists-length (x .beginnings) (y .beginnings) (x .lists-beginnings) (y .lists-beginnings) (begins-alike cs ds h) (begins-alike ds cs back) in
+    let g = lists-length (x .members) (y .members) (x .lists-members) (y .lists-members) (λ c i. h c .0 i) (λ c i. h c .1 i) in
+    let k = lists-total lastArgument (x .beginnings) (y .beginnings) (x .lists-beginnings) (y .lists-beginnings) (begins-alike cs ds h) (begins-alike ds cs back) in
+    let l = lists-total payloadLength (x .members) (y .members) (x .lists-members) (y .lists-members) (λ c i. h c .0 i) (λ c i. h c .1 i) in
+    let p : s .operations ≡ t .operations = x .operations ∙ (f ∙ sym (y .operations)) in
+    let q : s .attestations ≡ t .attestations = x .attestations ∙ (g ∙ sym (y .attestations)) in
+    let r : s .bytes ≡ t .bytes = x .bytes ∙ ((λ i. k i + l i) ∙ sym (y .bytes)) in
+    λ i. size (p i) (q i) (r i)
+
+-- ---- a union walked
+
+module _ (x : Att) (xs : List Att) (h : (ys : List Att) → uniteSize xs ys ≡ marksSize (unite xs ys)) where
+  place-by : (y : Att) (ys : List Att) (r : Ordering) → placeSize x xs (uniteSize xs) ys ≡ marksSize (place x xs (unite xs) ys)
+      → choose r (plus (attSize x) (uniteSize xs (y ∷ ys))) (plus (attSize x) (uniteSize xs ys)) (plus (attSize y) (placeSize x xs (uniteSize xs) ys))
+      ≡ marksSize (choose r (x ∷ unite xs (y ∷ ys)) (x ∷ unite xs ys) (y ∷ place x xs (unite xs) ys))
+  place-by y ys Less e = ap (plus (attSize x)) (h (y ∷ ys))
+  place-by y ys Equal e = ap (plus (attSize x)) (h ys)
+  place-by y ys Greater e = ap (plus (attSize y)) e
+
+  place-sized : (ys : List Att) → placeSize x xs (uniteSize xs) ys ≡ marksSize (place x xs (unite xs) ys)
+  place-sized [] = refl
+  place-sized (y ∷ ys) = place-by y ys (attOrder x y) (place-sized ys)
+
+pub unite-sized : (xs ys : List Att) → uniteSize xs ys ≡ marksSize (unite xs ys)
+unite-sized [] ys = refl
+unite-sized (x ∷ xs) ys = place-sized x xs (unite-sized xs) ys
+
+module _ (o : Op) (m : List Att) (b r : Tree) (f : (c : Tree) → unifySize b c ≡ branchesSize (unify b c)) (g : (s : Tree) → unifySize r s ≡ branchesSize (unify r s)) where
+  graft-by : (p : Op) (n : List Att) (c s : Tree) (k : Ordering)
+      → graftSize o m b r (unifySize b) (unifySize r) s ≡ branchesSize (graft o m b r (unify b) (unify r) s)
+      → choose k
+        (plus (opSize o) (plus (marksSize m) (plus (branchesSize b) (unifySize r (more p n c s)))))
+        (plus (opSize o) (plus (uniteSize m n) (plus (unifySize b c) (unifySize r s))))
+        (plus (opSize p) (plus (marksSize n) (plus (branchesSize c) (graftSize o m b r (unifySize b) (unifySize r) s))))
+      ≡ branchesSize (choose k (more o m b (unify r (more p n c s))) (more o (unite m n) (unify b c) (unify r s)) (more p n c (graft o m b r (unify b) (unify r) s)))
+  graft-by p n c s Less e = ap (λ z. plus (opSize o) (plus (marksSize m) (plus (branchesSize b) z))) (g (more p n c s))
+  graft-by p n c s Equal e = λ i. plus (opSize o) (plus (unite-sized m n i) (plus (f c i) (g s i)))
+  graft-by p n c s Greater e = ap (λ z. plus (opSize p) (plus (marksSize n) (plus (branchesSize c) z))) e
+
+  graft-sized : (t : Tree) → graftSize o m b r (unifySize b) (unifySize r) t ≡ branchesSize (graft o m b r (unify b) (unify r) t)
+  graft-sized end = refl
+  graft-sized (more p n c s) = graft-by p n c s (opOrder o p) (graft-sized s)
+
+pub unify-sized : (t u : Tree) → unifySize t u ≡ branchesSize (unify t u)
+unify-sized end u = refl
+unify-sized (more o m b r) u = graft-sized o m b r (unify-sized b) (unify-sized r) u
+
+pub union-sized : (m n : List Att) (t u : Tree) → plus (uniteSize m n) (unifySize t u) ≡ sizeOf (unite m n) (unify t u)
+union-sized m n t u = λ i. plus (unite-sized m n i) (unify-sized t u i)
+
+pub size-law : Size-law
+size-law = record { one = one-size; tree = tree-sized; union = union-sized }
