@@ -13,3 +13,4 @@ pub mod Shortest
 pub mod Spelling
 pub mod Repeats
 pub mod Sizes
+pub mod WrittenFiles

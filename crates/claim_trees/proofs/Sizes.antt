@@ -12,14 +12,15 @@ use Rattle.std.specs.declared.cmp.Ordering.the-variants.{Less, Equal, Greater}
 use Rattle.format.specs.Operations.{Op}
 use Rattle.format.specs.Attestations.{Att}
 use Rattle.format.specs.Nodes.{Claim, claim, under}
-use Rattle.claim_trees.specs.Tree.{Tree, end, more, here, through, claims, In, Alike, Through, Claims}
+use Rattle.claim_trees.specs.Tree.{Tree, end, more, Held, held, here, through, claims, In, Alike, Through, Claims}
 use Rattle.claim_trees.specs.Order.{argumentOf, opOrder, attOrder, before, ascends, sorted}
-use Rattle.claim_trees.specs.Union.{choose, place, unite, graft, unify}
+use Rattle.claim_trees.specs.Union.{choose, place, unite, graft, unify, union}
 use Rattle.claim_trees.specs.Bytes.{payloadOf}
 use Rattle.claim_trees.specs.Size.{Size, size, Apart, Lists, Begins, total, lastArgument, payloadLength, Sized, plus, opSize, attSize, marksSize, branchesSize, sizeOf, placeSize, uniteSize, graftSize, unifySize, Size-law}
+use Rattle.claim_trees.specs.Gathered.{gathered, Holds}
 use Rattle.claim_trees.proofs.Orders.{ops, claims-ordered, less-itself}
 use Rattle.claim_trees.proofs.Listing.{in-left, in-right, in-either, listed}
-use Rattle.claim_trees.proofs.Gathering.{in-map, map-in, alike-same}
+use Rattle.claim_trees.proofs.Gathering.{in-map, map-in, alike-same, holds-union, holds-own, gathered-holds}
 use Rattle.claim_trees.proofs.Kept.{Parts, parts}
 use Rattle.claim_trees.proofs.Unique.{witness, beyond}
 use Rattle.claim_trees.proofs.Ascending.{written-rising}
@@ -238,5 +239,89 @@ unify-sized (more o m b r) u = graft-sized o m b r (unify-sized b) (unify-sized 
 pub union-sized : (m n : List Att) (t u : Tree) → plus (uniteSize m n) (unifySize t u) ≡ sizeOf (unite m n) (unify t u)
 union-sized m n t u = λ i. plus (unite-sized m n i) (unify-sized t u i)
 
+pub sized-alike : (cs ds : List Claim) (s : Size) → Alike cs ds → Sized cs s → Sized ds s
+sized-alike cs ds s h x =
+    let back : Alike ds cs = λ c. (h c .1, h c .0) in
+    record {
+      beginnings = x .beginnings;
+      members = x .members;
+      lists-beginnings = record {
+        members = λ b. let i = x .lists-beginnings .members b in ((λ j. begins-alike cs ds h b (i .0 j)), (λ j. i .1 (begins-alike ds cs back b j)));
+        apart = x .lists-beginnings .apart;
+      };
+      lists-members = record {
+        members = λ c. let i = x .lists-members .members c in ((λ j. h c .0 (i .0 j)), (λ j. i .1 (h c .1 j)));
+        apart = x .lists-members .apart;
+      };
+      operations = x .operations;
+      attestations = x .attestations;
+      bytes = x .bytes;
+    }
+
+pub held-sized : (x : Held) (cs : List Claim) → Holds x cs → Sized cs (sizeOf (x .marks) (x .branches))
+held-sized x cs h = sized-alike (claims (x .marks) (x .branches)) cs (sizeOf (x .marks) (x .branches)) (h .claims)
+    (tree-sized (x .marks) (x .branches) (h .marks) (h .branches))
+
+both-sized : (m n : List Att) (t u : Tree) → ascends m ≡ true → sorted t ≡ true → ascends n ≡ true → sorted u ≡ true
+    → Sized (claims m t ++ claims n u) (plus (uniteSize m n) (unifySize t u))
+both-sized m n t u a b c d = subst (Sized (claims m t ++ claims n u)) (sym (union-sized m n t u))
+    (held-sized (union (held m t) (held n u)) (claims m t ++ claims n u)
+    (holds-union (held m t) (held n u) (claims m t) (claims n u) (holds-own m t a b) (holds-own n u c d)))
+
 pub size-law : Size-law
-size-law = record { one = one-size; tree = tree-sized; union = union-sized }
+size-law = record { one = one-size; tree = tree-sized; gathers = λ cs. held-sized (gathered cs) cs (gathered-holds cs); both = both-sized; union = union-sized }
+
+-- ---- the union is no larger than both
+
+pub record AtMost (s t u : Size) : Type 0 where
+  pub operations : s .operations ≤ t .operations + u .operations
+  pub attestations : s .attestations ≤ t .attestations + u .attestations
+  pub bytes : s .bytes ≤ t .bytes + u .bytes
+
+most-place : (x : Att) (xs : List Att) → ((ys : List Att) → AtMost (uniteSize xs ys) (marksSize xs) (marksSize ys))
+    → (y : Att) (ys : List Att) (r : Ordering) → AtMost (uniteSize (x ∷ xs) ys) (marksSize (x ∷ xs)) (marksSize ys)
+    → AtMost (choose r (plus (attSize x) (uniteSize xs (y ∷ ys))) (plus (attSize x) (uniteSize xs ys)) (plus (attSize y) (uniteSize (x ∷ xs) ys)))
+      (marksSize (x ∷ xs)) (marksSize (y ∷ ys))
+most-place x xs h y ys Less ih = let k = h (y ∷ ys) in
+    let a = k .operations in let b = k .attestations in let c = k .bytes in
+    record { operations = omega arith; attestations = omega arith; bytes = omega arith }
+most-place x xs h y ys Equal ih = let k = h ys in
+    let a = k .operations in let b = k .attestations in let c = k .bytes in
+    record { operations = omega arith; attestations = omega arith; bytes = omega arith }
+most-place x xs h y ys Greater ih =
+    let a = ih .operations in let b = ih .attestations in let c = ih .bytes in
+    record { operations = omega arith; attestations = omega arith; bytes = omega arith }
+
+pub unite-most : (xs ys : List Att) → AtMost (uniteSize xs ys) (marksSize xs) (marksSize ys)
+unite-most [] ys = record { operations = omega arith; attestations = omega arith; bytes = omega arith }
+unite-most (x ∷ xs) [] = record { operations = omega arith; attestations = omega arith; bytes = omega arith }
+unite-most (x ∷ xs) (y ∷ ys) = most-place x xs (unite-most xs) y ys (attOrder x y) (unite-most (x ∷ xs) ys)
+
+most-graft : (o p : Op) (m n : List Att) (b c r s : Tree) (k : Ordering)
+    → AtMost (uniteSize m n) (marksSize m) (marksSize n)
+    → AtMost (unifySize r (more p n c s)) (branchesSize r) (branchesSize (more p n c s))
+    → AtMost (unifySize b c) (branchesSize b) (branchesSize c)
+    → AtMost (unifySize r s) (branchesSize r) (branchesSize s)
+    → AtMost (unifySize (more o m b r) s) (branchesSize (more o m b r)) (branchesSize s)
+    → AtMost (choose k
+        (plus (opSize o) (plus (marksSize m) (plus (branchesSize b) (unifySize r (more p n c s)))))
+        (plus (opSize o) (plus (uniteSize m n) (plus (unifySize b c) (unifySize r s))))
+        (plus (opSize p) (plus (marksSize n) (plus (branchesSize c) (unifySize (more o m b r) s)))))
+      (branchesSize (more o m b r)) (branchesSize (more p n c s))
+most-graft o p m n b c r s Less u v w x y =
+    let a1 = v .operations in let a2 = v .attestations in let a3 = v .bytes in
+    record { operations = omega arith; attestations = omega arith; bytes = omega arith }
+most-graft o p m n b c r s Equal u v w x y =
+    let a1 = u .operations in let a2 = u .attestations in let a3 = u .bytes in
+    let b1 = w .operations in let b2 = w .attestations in let b3 = w .bytes in
+    let c1 = x .operations in let c2 = x .attestations in let c3 = x .bytes in
+    record { operations = omega arith; attestations = omega arith; bytes = omega arith }
+most-graft o p m n b c r s Greater u v w x y =
+    let a1 = y .operations in let a2 = y .attestations in let a3 = y .bytes in
+    record { operations = omega arith; attestations = omega arith; bytes = omega arith }
+
+pub unify-most : (t u : Tree) → AtMost (unifySize t u) (branchesSize t) (branchesSize u)
+unify-most end u = record { operations = omega arith; attestations = omega arith; bytes = omega arith }
+unify-most (more o m b r) end = record { operations = omega arith; attestations = omega arith; bytes = omega arith }
+unify-most (more o m b r) (more p n c s) =
+    most-graft o p m n b c r s (opOrder o p) (unite-most m n) (unify-most r (more p n c s)) (unify-most b c) (unify-most r s) (unify-most (more o m b r) s)

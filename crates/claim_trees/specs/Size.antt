@@ -13,6 +13,7 @@ use Rattle.claim_trees.specs.Tree.{Tree, end, more, claims, In, Alike}
 use Rattle.claim_trees.specs.Order.{argumentOf, opOrder, attOrder, ascends, sorted}
 use Rattle.claim_trees.specs.Union.{choose, unite, unify}
 use Rattle.claim_trees.specs.Bytes.{payloadOf}
+use Rattle.claim_trees.specs.Gathered.{gathered}
 
 pub record Size : Type 0 where
   pub operations : ℕ
@@ -132,5 +133,9 @@ pub record Size-law : Type 0 where
   -- the size of a sorted tree is that of its claims
   pub tree : (marks : List Att) (branches : Tree) → ascends marks ≡ true → sorted branches ≡ true
       → Sized (claims marks branches) (sizeOf marks branches)
-  -- the two walked together
+  pub gathers : (cs : List Claim) → Sized cs (sizeOf (gathered cs .marks) (gathered cs .branches))
+  -- two sorted trees walked together give the size of both sets of claims
+  pub both : (m n : List Att) (t u : Tree) → ascends m ≡ true → sorted t ≡ true → ascends n ≡ true → sorted u ≡ true
+      → Sized (claims m t ++ claims n u) (plus (uniteSize m n) (unifySize t u))
+  -- which is that of their union
   pub union : (m n : List Att) (t u : Tree) → plus (uniteSize m n) (unifySize t u) ≡ sizeOf (unite m n) (unify t u)
