@@ -10,12 +10,12 @@ use Rattle.std.proofs.shelf.Tests.{and-parts, and-from}
 use Rattle.format.specs.Operations.{Op}
 use Rattle.format.specs.Attestations.{Att}
 use Rattle.format.specs.Nodes.{Claim, claim, under}
-use Rattle.claim_trees.specs.Tree.{Tree, end, more, here, through, claims, In, Claims}
-use Rattle.claim_trees.specs.Order.{opOrder, attOrder, pathOrder, claimOrder, ahead, rising, ascends, before, sorted, Order-law}
-use Rattle.claim_trees.proofs.Orders.{ops, atts, claims-ordered, is-less}
+use Rattle.claim_trees.specs.Tree.{Tree, end, more, here, through, claims, In, Apart, Claims}
+use Rattle.claim_trees.specs.Order.{opOrder, attOrder, pathOrder, claimOrder, ahead, rising, ascends, before, sorted, Strict-total, Order-law}
+use Rattle.claim_trees.proofs.Orders.{ops, atts, claims-ordered, is-less, less-itself}
 use Rattle.claim_trees.proofs.Kept.{Parts, parts}
 use Rattle.claim_trees.proofs.Listing.{listed}
-use Rattle.claim_trees.proofs.Unique.{beyond}
+use Rattle.claim_trees.proofs.Unique.{after, beyond}
 
 module _ {A : Type 0} (p : A → A → Ordering) where
   ahead-all : (x : A) (ys : List A) → ((y : A) → In y ys → isLt (p x y) ≡ true) → ahead p x ys ≡ true
@@ -88,5 +88,15 @@ through-rising (more o m b r) h =
 pub written-rising : (m : List Att) (t : Tree) → ascends m ≡ true → sorted t ≡ true → rising claimOrder (claims m t) ≡ true
 written-rising m t h k = node-rising m t h (through-rising t k)
 
+-- a list that ascends has no repeats
+rising-apart : {A : Type 0} {p : A → A → Ordering} (s : Strict-total p) (xs : List A) → rising p xs ≡ true → Apart xs
+rising-apart s [] h = tt
+rising-apart {p = p} s (x ∷ xs) h =
+    let q = and-parts (ahead p x xs) (rising p xs) h in
+    ((λ i. less-itself s x (after s x xs (q .0) (q .1) x i)), rising-apart s xs (q .1))
+
+pub claims-apart : (m : List Att) (t : Tree) → ascends m ≡ true → sorted t ≡ true → Apart (claims m t)
+claims-apart m t h k = rising-apart claims-ordered (claims m t) (written-rising m t h k)
+
 pub order-law : Order-law
-order-law = record { of-operations = ops; of-attestations = atts; of-claims = claims-ordered; written = written-rising }
+order-law = record { of-operations = ops; of-attestations = atts; of-claims = claims-ordered; written = written-rising; once = claims-apart }

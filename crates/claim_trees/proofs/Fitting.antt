@@ -8,6 +8,7 @@ use native.Mathlib.Omega.{arith}
 use lib.Dec.{ltb, leb, eqb}
 use lib.ListN.{length}
 use Rattle.std.proofs.shelf.Tests.{and-parts, and-from, lt-ltb, le-leb, eq-eqb}
+use Rattle.std.proofs.shelf.Lists.{length-append, length-map}
 use Rattle.format.specs.declared.Kind.{Kind}
 use Rattle.format.specs.Outcome.{Outcome, got}
 use Rattle.format.specs.Operations.{Op, opOf, resultSize, messageLimit, pathLimit}
@@ -18,6 +19,7 @@ use Rattle.format.specs.Grammar.{Number, Block, block, Argument, sha256, append
 use Rattle.format.proofs.Sound.{Reads, sound-file, each-address}
 use Rattle.format.proofs.Complete.{not-same}
 use Rattle.claim_trees.specs.Tree.{In}
+use Rattle.claim_trees.specs.Laws.{Fitting}
 use Rattle.claim_trees.specs.Lawful.{resultOf, argumentFits, opFits, attFits, pathFits, fitsAt, claimFits, every}
 
 -- ---- a test of every member
@@ -87,12 +89,30 @@ mutual
   node-fits (last b) = branch-fits b
   node-fits (another {depth = depth} {size = size} {cs = cs} {ds = ds} b n) = every-append (fitsAt depth size) cs ds (branch-fits b) (node-fits n)
 
-file-fits : {file : List ℕ} {s : Said} → File file s → every claimFits (s .claims) ≡ true
-file-fits (proof v l n f) = node-fits n
+-- a node says something
+mutual
+  branch-some : {depth size : ℕ} {bs : List ℕ} {cs : List Claim} → Branch depth size bs cs → 0 < length cs
+  branch-some (attestation l b c) = omega arith
+  branch-some (operation {kind = kind} {argument = a} {cs = cs} k d m f n) =
+      let h = node-some n in let e = length-map cs (under (opOf kind a)) in omega arith
 
--- the claims of a file that reads
-pub claims-fit : (file : List ℕ) (s : Said) (end : ℕ) → fileAt file ≡ got s end → every claimFits (s .claims) ≡ true
-claims-fit file s end e =
+  node-some : {depth size : ℕ} {bs : List ℕ} {cs : List Claim} → Node depth size bs cs → 0 < length cs
+  node-some (last b) = branch-some b
+  node-some (another {cs = cs} {ds = ds} b n) = let h = branch-some b in let e = length-append cs ds in omega arith
+
+-- what a file says
+pub record Proper (s : Said) : Type 0 where
+  pub fitting : Fitting (s .claims)
+  pub digest : length (s .head .digest) ≡ 32
+
+file-proper : {file : List ℕ} {s : Said} → File file s → Proper s
+file-proper (proof v l n f) = record { fitting = record { some = node-some n; fit = node-fits n }; digest = l }
+
+pub spelled-file : (file : List ℕ) (s : Said) (end : ℕ) → fileAt file ≡ got s end → File file s
+spelled-file file s end e =
     let P : Outcome Said → Type 0 = λ o. Reads (λ s n. (n ≡ length file) × File file s) o in
     let r : (end ≡ length file) × File file s = subst P e (sound-file file) in
-    file-fits (r .1)
+    r .1
+
+pub proper : (file : List ℕ) (s : Said) (end : ℕ) → fileAt file ≡ got s end → Proper s
+proper file s end e = file-proper (spelled-file file s end e)

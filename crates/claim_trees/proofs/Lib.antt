@@ -14,3 +14,4 @@ pub mod Spelling
 pub mod Repeats
 pub mod Sizes
 pub mod WrittenFiles
+pub mod CanonicalFiles

@@ -1,20 +1,14 @@
 -- Lists without repeats that have the same members have the same sums.
 use mathlib.Core.Path.{_≡_, refl, sym, ap, subst, _∙_}
-use mathlib.Core.Bool.{true}
 use mathlib.Core.List.{List, [], _∷_, _++_, map}
 use mathlib.Core.Logic.{_⊎_, inl, inr, ⊎-elim}
 use Prim.Native.Nat.{ℕ, _+_}
 use native.Mathlib.Omega.{arith}
 use lib.ListN.{length}
-use Rattle.std.specs.declared.cmp.Ordering.{Ordering}
-use Rattle.std.proofs.shelf.Tests.{and-parts}
-use Rattle.claim_trees.specs.Tree.{In, Alike}
-use Rattle.claim_trees.specs.Order.{ahead, rising, Strict-total}
-use Rattle.claim_trees.specs.Size.{Apart, Lists, total}
-use Rattle.claim_trees.proofs.Orders.{less-itself}
+use Rattle.claim_trees.specs.Tree.{In, Alike, Apart}
+use Rattle.claim_trees.specs.Size.{Lists, total}
 use Rattle.claim_trees.proofs.Listing.{in-either}
 use Rattle.claim_trees.proofs.Gathering.{map-in}
-use Rattle.claim_trees.proofs.Unique.{after}
 
 -- ---- sums
 
@@ -101,10 +95,3 @@ apart-map f one [] a = tt
 apart-map f one (x ∷ xs) a = (
   (λ i. let e = map-in f (f x) xs i in a .0 (subst (λ z. In z xs) (sym (one x (e .0) (e .1 .1))) (e .1 .0))),
   apart-map f one xs (a .1))
-
--- a list that ascends has no repeats
-pub rising-apart : {A : Type 0} {p : A → A → Ordering} (s : Strict-total p) (xs : List A) → rising p xs ≡ true → Apart xs
-rising-apart s [] h = tt
-rising-apart {p = p} s (x ∷ xs) h =
-    let q = and-parts (ahead p x xs) (rising p xs) h in
-    ((λ i. less-itself s x (after s x xs (q .0) (q .1) x i)), rising-apart s xs (q .1))

@@ -12,19 +12,19 @@ use Rattle.std.specs.declared.cmp.Ordering.the-variants.{Less, Equal, Greater}
 use Rattle.format.specs.Operations.{Op}
 use Rattle.format.specs.Attestations.{Att}
 use Rattle.format.specs.Nodes.{Claim, claim, under}
-use Rattle.claim_trees.specs.Tree.{Tree, end, more, Held, held, here, through, claims, In, Alike, Through, Claims}
+use Rattle.claim_trees.specs.Tree.{Tree, end, more, Held, held, here, through, claims, In, Alike, Apart, Through, Claims}
 use Rattle.claim_trees.specs.Order.{argumentOf, opOrder, attOrder, before, ascends, sorted}
 use Rattle.claim_trees.specs.Union.{choose, place, unite, graft, unify, union}
 use Rattle.claim_trees.specs.Bytes.{payloadOf}
-use Rattle.claim_trees.specs.Size.{Size, size, Apart, Lists, Begins, total, lastArgument, payloadLength, Sized, plus, opSize, attSize, marksSize, branchesSize, sizeOf, placeSize, uniteSize, graftSize, unifySize, Size-law}
+use Rattle.claim_trees.specs.Size.{Size, size, Lists, Begins, total, lastArgument, payloadLength, Sized, plus, opSize, attSize, marksSize, branchesSize, sizeOf, placeSize, uniteSize, graftSize, unifySize, Size-law}
 use Rattle.claim_trees.specs.Gathered.{gathered, Holds}
-use Rattle.claim_trees.proofs.Orders.{ops, claims-ordered, less-itself}
+use Rattle.claim_trees.proofs.Orders.{ops, less-itself}
 use Rattle.claim_trees.proofs.Listing.{in-left, in-right, in-either, listed}
 use Rattle.claim_trees.proofs.Gathering.{in-map, map-in, alike-same, holds-union, holds-own, gathered-holds}
 use Rattle.claim_trees.proofs.Kept.{Parts, parts}
 use Rattle.claim_trees.proofs.Unique.{witness, beyond}
-use Rattle.claim_trees.proofs.Ascending.{written-rising}
-use Rattle.claim_trees.proofs.Repeats.{total-append, lists-total, lists-length, apart-append, apart-map, rising-apart}
+use Rattle.claim_trees.proofs.Ascending.{claims-apart}
+use Rattle.claim_trees.proofs.Repeats.{total-append, lists-total, lists-length, apart-append, apart-map}
 
 -- ---- the beginnings of the paths of a tree
 
@@ -174,7 +174,7 @@ tree-sized m t h s = record {
   beginnings = beginnings t;
   members = claims m t;
   lists-beginnings = record { members = λ b. (begins m t s b, begins-back m t b); apart = beginnings-apart t s };
-  lists-members = record { members = alike-same (claims m t); apart = rising-apart claims-ordered (claims m t) (written-rising m t h s) };
+  lists-members = record { members = alike-same (claims m t); apart = claims-apart m t h s };
   operations = let x = marks-operations m in let y = count-operations t in omega arith;
   attestations = let x = marks-attestations m in let y = count-attestations t in let e = length-append (map here m) (through t) in omega arith;
   bytes = let x = marks-bytes m in let y = count-bytes t in let e = total-append payloadLength (map here m) (through t) in omega arith;

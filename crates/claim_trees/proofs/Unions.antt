@@ -5,7 +5,7 @@ use mathlib.Core.List.{List, []}
 use mathlib.Core.Logic.{_⊎_, inl, inr, ⊎-elim}
 use Rattle.std.proofs.shelf.Tests.{and-parts, and-from}
 use Rattle.format.specs.Nodes.{Claim}
-use Rattle.claim_trees.specs.Tree.{Held, claims, In, Alike}
+use Rattle.claim_trees.specs.Tree.{Held, blank, through, claims, In, Alike}
 use Rattle.claim_trees.specs.Order.{ascends, sorted}
 use Rattle.claim_trees.specs.Union.{union}
 use Rattle.claim_trees.specs.Lawful.{claimFits, every}
@@ -13,7 +13,7 @@ use Rattle.claim_trees.specs.Gathered.{gathered, Holds}
 use Rattle.claim_trees.specs.Laws.{claimsOf, Lawful, Union-law, Unique-law}
 use Rattle.claim_trees.proofs.Kept.{unite-ascends, unify-sorted}
 use Rattle.claim_trees.proofs.Gathering.{union-in, same-tree, gathered-holds, holds-one}
-use Rattle.claim_trees.proofs.Fitting.{every-in, every-all, claims-fit}
+use Rattle.claim_trees.proofs.Fitting.{every-in, every-all, proper}
 
 -- the parts of a law
 pub record Kept (x : Held) : Type 0 where
@@ -29,6 +29,10 @@ kept x h =
 
 pub lawful-from : (x : Held) → Kept x → Lawful x
 lawful-from x k = and-from _ _ (k .marks) (and-from _ _ (k .branches) (k .fit))
+
+pub blank-lawful : Lawful blank
+unfolding through
+blank-lawful = refl
 
 -- ---- union
 
@@ -78,4 +82,4 @@ pub gathered-lawful : (cs : List Claim) → every claimFits cs ≡ true → Lawf
 gathered-lawful cs f = held-lawful (gathered cs) cs (gathered-holds cs) f
 
 pub unique-law : Unique-law
-unique-law = record { unique = lawful-same; gathers = gathered-holds; only = holds-one; lawfully = gathered-lawful; fits = claims-fit }
+unique-law = record { unique = lawful-same; gathers = gathered-holds; only = holds-one; lawfully = gathered-lawful; fits = λ file s n e. proper file s n e .fitting; digests = λ file s n e. proper file s n e .digest }

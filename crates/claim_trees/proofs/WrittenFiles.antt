@@ -137,7 +137,7 @@ file-returns digest x l h f w =
     full-file (fileBytes digest (x .marks) (x .branches)) (said (head 32 digest) (claimsOf x))
     (proof version l (node-spelled 0 32 (x .marks) (x .branches) f (k .branches) (k .fit)) fits)
 
-reread : (digest : List ℕ) (cs : List Claim) (s : Size) → length digest ≡ 32 → Fitting cs → Sized cs s → within s ≡ true
+pub reread : (digest : List ℕ) (cs : List Claim) (s : Size) → length digest ≡ 32 → Fitting cs → Sized cs s → within s ≡ true
     → (ds : List Claim) × (fileAt (written digest cs) ≡ got (said (head 32 digest) ds) (length (written digest cs))) × Alike ds cs
 reread digest cs s l f z w =
     let x = gathered cs in

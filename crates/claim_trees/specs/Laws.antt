@@ -35,6 +35,11 @@ pub record Union-law : Type 0 where
   pub associates : (x y z : Held) → Lawful x → Lawful y → Lawful z → union (union x y) z ≡ union x (union y z)
   pub idempotent : (x : Held) → Lawful x → union x x ≡ x
 
+-- at least one claim, and every claim one that a proof file can hold
+pub record Fitting (cs : List Claim) : Type 0 where
+  pub some : 0 < length cs
+  pub fit : every claimFits cs ≡ true
+
 pub record Unique-law : Type 0 where
   -- one tree for each set of claims
   pub unique : (x y : Held) → Lawful x → Lawful y → Alike (claimsOf x) (claimsOf y) → x ≡ y
@@ -42,8 +47,9 @@ pub record Unique-law : Type 0 where
   pub gathers : (cs : List Claim) → Holds (gathered cs) cs
   pub only : (x : Held) (cs : List Claim) → Holds x cs → x ≡ gathered cs
   pub lawfully : (cs : List Claim) → every claimFits cs ≡ true → Lawful (gathered cs)
-  -- and every claim of a proof file fits
-  pub fits : (file : List ℕ) (s : Said) (end : ℕ) → fileAt file ≡ got s end → every claimFits (s .claims) ≡ true
+  -- the claims of a proof file are such claims, under a digest of 32 bytes
+  pub fits : (file : List ℕ) (s : Said) (end : ℕ) → fileAt file ≡ got s end → Fitting (s .claims)
+  pub digests : (file : List ℕ) (s : Said) (end : ℕ) → fileAt file ≡ got s end → length (s .head .digest) ≡ 32
 
 -- bytes
 abbrev pub Small : List ℕ → Type 0
@@ -59,11 +65,6 @@ pub record Number-law : Type 0 where
 -- the longest file that is written: 65 + 4 * 1,024 + 12 * 128 + 32,768 bytes
 abbrev pub writtenLimit : ℕ
 writtenLimit = 38465
-
--- at least one claim, and every claim one that a proof file can hold
-pub record Fitting (cs : List Claim) : Type 0 where
-  pub some : 0 < length cs
-  pub fit : every claimFits cs ≡ true
 
 pub record Written-law : Type 0 where
   -- a written tree is read back: the digest, and its claims in written order
@@ -86,3 +87,6 @@ pub record Canonical-law : Type 0 where
   pub apart : (digest other : List ℕ) (cs ds : List Claim) (s t : Size) → length digest ≡ 32 → length other ≡ 32
       → Fitting cs → Fitting ds → Sized cs s → Sized ds t → within s ≡ true → within t ≡ true
       → written digest cs ≡ written other ds → (digest ≡ other) × Alike cs ds
+  -- a canonical file that is read and written again stays as it is
+  pub again : (digest : List ℕ) (cs : List Claim) (s : Size) (t : Said) (end : ℕ) → length digest ≡ 32 → Fitting cs → Sized cs s → within s ≡ true
+      → fileAt (written digest cs) ≡ got t end → written (t .head .digest) (t .claims) ≡ written digest cs

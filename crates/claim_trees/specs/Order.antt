@@ -13,7 +13,7 @@ use Rattle.format.specs.declared.Kind.the-variants.{Sha256, Append, Prepend, Re
 use Rattle.format.specs.Operations.{Op, sha256, append, prepend, reverse, hexlify}
 use Rattle.format.specs.Attestations.{Att, pending, bitcoin, unknown, pendingTag, bitcoinTag}
 use Rattle.format.specs.Nodes.{Claim}
-use Rattle.claim_trees.specs.Tree.{Tree, end, more, filled, claims}
+use Rattle.claim_trees.specs.Tree.{Tree, end, more, filled, claims, Apart}
 
 abbrev pub kindOfOp : Op → Kind
 kindOfOp sha256 = Sha256
@@ -127,3 +127,5 @@ pub record Order-law : Type 0 where
   -- the claims of a sorted tree ascend as they are written
   pub written : (marks : List Att) (branches : Tree) → ascends marks ≡ true → sorted branches ≡ true
       → rising claimOrder (claims marks branches) ≡ true
+  -- so each is written once
+  pub once : (marks : List Att) (branches : Tree) → ascends marks ≡ true → sorted branches ≡ true → Apart (claims marks branches)

@@ -9,7 +9,7 @@ use Rattle.format.specs.Operations.{Op}
 use Rattle.format.specs.Attestations.{Att}
 use Rattle.format.specs.Nodes.{Claim}
 use Rattle.format.specs.FirstFault.{Iff}
-use Rattle.claim_trees.specs.Tree.{Tree, end, more, claims, In, Alike}
+use Rattle.claim_trees.specs.Tree.{Tree, end, more, claims, In, Alike, Apart}
 use Rattle.claim_trees.specs.Order.{argumentOf, opOrder, attOrder, ascends, sorted}
 use Rattle.claim_trees.specs.Union.{choose, unite, unify}
 use Rattle.claim_trees.specs.Bytes.{payloadOf}
@@ -37,11 +37,6 @@ abbrev pub within : Size → Bool
 within s = leb (s .operations) operationLimit && (leb (s .attestations) attestationLimit && leb (s .bytes) byteLimit)
 
 -- ---- the size of a set
-
--- no member twice
-abbrev pub Apart : {A : Type 0} → List A → Type 0
-Apart [] = Unit {0}
-Apart (x ∷ xs) = (In x xs → ⊥) × Apart xs
 
 -- a list of exactly what P says, each once
 pub record Lists {A : Type 0} (P : A → Type 0) (xs : List A) : Type 0 where

@@ -46,6 +46,11 @@ In x (y ∷ ys) = (x ≡ y) ⊎ In x ys
 abbrev pub Alike : {A : Type 0} → List A → List A → Type 0
 Alike {A} xs ys = (x : A) → Iff (In x xs) (In x ys)
 
+-- no member twice
+abbrev pub Apart : {A : Type 0} → List A → Type 0
+Apart [] = Unit {0}
+Apart (x ∷ xs) = (In x xs → ⊥) × Apart xs
+
 -- some branch has the operation o, and P holds of the node below it
 abbrev pub Through : Op → (List Att → Tree → Type 0) → Tree → Type 0
 Through o P end = ⊥
