@@ -96,7 +96,7 @@ mutual
   branch-some (operation {kind = kind} {argument = a} {cs = cs} k d m f n) =
       let h = node-some n in let e = length-map cs (under (opOf kind a)) in omega arith
 
-  node-some : {depth size : ℕ} {bs : List ℕ} {cs : List Claim} → Node depth size bs cs → 0 < length cs
+  pub node-some : {depth size : ℕ} {bs : List ℕ} {cs : List Claim} → Node depth size bs cs → 0 < length cs
   node-some (last b) = branch-some b
   node-some (another {cs = cs} {ds = ds} b n) = let h = branch-some b in let e = length-append cs ds in omega arith
 

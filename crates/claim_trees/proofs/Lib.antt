@@ -15,3 +15,5 @@ pub mod Repeats
 pub mod Sizes
 pub mod WrittenFiles
 pub mod CanonicalFiles
+pub mod Bounded
+pub mod Compared

@@ -16,7 +16,7 @@ use Rattle.claim_trees.specs.Tree.{Tree, end, more, Held, held, here, through,
 use Rattle.claim_trees.specs.Order.{argumentOf, opOrder, attOrder, before, ascends, sorted}
 use Rattle.claim_trees.specs.Union.{choose, place, unite, graft, unify, union}
 use Rattle.claim_trees.specs.Bytes.{payloadOf}
-use Rattle.claim_trees.specs.Size.{Size, size, Lists, Begins, total, lastArgument, payloadLength, Sized, plus, opSize, attSize, marksSize, branchesSize, sizeOf, placeSize, uniteSize, graftSize, unifySize, Size-law}
+use Rattle.claim_trees.specs.Size.{Size, size, Lists, Begins, total, lastArgument, payloadBytes, Sized, plus, opSize, attSize, marksSize, branchesSize, sizeOf, placeSize, uniteSize, graftSize, unifySize, Size-law}
 use Rattle.claim_trees.specs.Gathered.{gathered, Holds}
 use Rattle.claim_trees.proofs.Orders.{ops, less-itself}
 use Rattle.claim_trees.proofs.Listing.{in-left, in-right, in-either, listed}
@@ -143,7 +143,7 @@ count-attestations (more o m b r) =
     let d = length-map (claims m b) (under o) in
     let f = length-append (map here m) (through b) in omega arith
 
-total-under : (o : Op) (cs : List Claim) → total payloadLength (map (under o) cs) ≡ total payloadLength cs
+total-under : (o : Op) (cs : List Claim) → total payloadBytes (map (under o) cs) ≡ total payloadBytes cs
 total-under o [] = refl
 total-under o (c ∷ cs) = let h = total-under o cs in omega arith
 
@@ -152,20 +152,20 @@ total-cons o [] h = refl
 total-cons o ([] ∷ xs) h = absurd (h (inl refl))
 total-cons o ((p ∷ ps) ∷ xs) h = let k = total-cons o xs (λ i. h (inr i)) in omega arith
 
-marks-bytes : (m : List Att) → marksSize m .bytes ≡ total payloadLength (map here m)
+marks-bytes : (m : List Att) → marksSize m .bytes ≡ total payloadBytes (map here m)
 marks-bytes [] = refl
 marks-bytes (a ∷ m) = let h = marks-bytes m in omega arith
 
-count-bytes : (t : Tree) → branchesSize t .bytes ≡ total lastArgument (beginnings t) + total payloadLength (through t)
+count-bytes : (t : Tree) → branchesSize t .bytes ≡ total lastArgument (beginnings t) + total payloadBytes (through t)
 unfolding beginnings through
 count-bytes end = refl
 count-bytes (more o m b r) =
     let x = marks-bytes m in let y = count-bytes b in let z = count-bytes r in
     let e = total-append lastArgument (map (λ os. o ∷ os) (beginnings b)) (beginnings r) in
     let d = total-cons o (beginnings b) (not-empty b) in
-    let f = total-append payloadLength (map (under o) (claims m b)) (through r) in
+    let f = total-append payloadBytes (map (under o) (claims m b)) (through r) in
     let g = total-under o (claims m b) in
-    let h = total-append payloadLength (map here m) (through b) in omega arith
+    let h = total-append payloadBytes (map here m) (through b) in omega arith
 
 -- ---- the size of a tree
 
@@ -177,7 +177,7 @@ tree-sized m t h s = record {
   lists-members = record { members = alike-same (claims m t); apart = claims-apart m t h s };
   operations = let x = marks-operations m in let y = count-operations t in omega arith;
   attestations = let x = marks-attestations m in let y = count-attestations t in let e = length-append (map here m) (through t) in omega arith;
-  bytes = let x = marks-bytes m in let y = count-bytes t in let e = total-append payloadLength (map here m) (through t) in omega arith;
+  bytes = let x = marks-bytes m in let y = count-bytes t in let e = total-append payloadBytes (map here m) (through t) in omega arith;
 }
 
 -- ---- one size for a set
@@ -192,7 +192,7 @@ one-size cs ds s t h x y =
     let f = lists-length (x .beginnings) (y .beginnings) (x .lists-beginnings) (y .lists-beginnings) (begins-alike cs ds h) (begins-alike ds cs back) in
     let g = lists-length (x .members) (y .members) (x .lists-members) (y .lists-members) (λ c i. h c .0 i) (λ c i. h c .1 i) in
     let k = lists-total lastArgument (x .beginnings) (y .beginnings) (x .lists-beginnings) (y .lists-beginnings) (begins-alike cs ds h) (begins-alike ds cs back) in
-    let l = lists-total payloadLength (x .members) (y .members) (x .lists-members) (y .lists-members) (λ c i. h c .0 i) (λ c i. h c .1 i) in
+    let l = lists-total payloadBytes (x .members) (y .members) (x .lists-members) (y .lists-members) (λ c i. h c .0 i) (λ c i. h c .1 i) in
     let p : s .operations ≡ t .operations = x .operations ∙ (f ∙ sym (y .operations)) in
     let q : s .attestations ≡ t .attestations = x .attestations ∙ (g ∙ sym (y .attestations)) in
     let r : s .bytes ≡ t .bytes = x .bytes ∙ ((λ i. k i + l i) ∙ sym (y .bytes)) in

@@ -58,8 +58,8 @@ lastArgument [] = 0
 lastArgument (o ∷ []) = length (argumentOf o)
 lastArgument (o ∷ (p ∷ ps)) = lastArgument (p ∷ ps)
 
-abbrev pub payloadLength : Claim → ℕ
-payloadLength c = length (payloadOf (c .attestation))
+abbrev pub payloadBytes : Claim → ℕ
+payloadBytes c = length (payloadOf (c .attestation))
 
 -- the size of a set of claims, by lists of its beginnings and of its claims
 pub record Sized (cs : List Claim) (s : Size) : Type 0 where
@@ -69,12 +69,12 @@ pub record Sized (cs : List Claim) (s : Size) : Type 0 where
   pub lists-members : Lists (λ c. In c cs) members
   pub operations : s .operations ≡ length beginnings
   pub attestations : s .attestations ≡ length members
-  pub bytes : s .bytes ≡ total lastArgument beginnings + total payloadLength members
+  pub bytes : s .bytes ≡ total lastArgument beginnings + total payloadBytes members
 
 -- ---- the size of a tree
 
-abbrev pub zero-size : Size
-zero-size = size 0 0 0
+abbrev pub empty : Size
+empty = size 0 0 0
 
 abbrev pub plus : Size → Size → Size
 plus s t = size (s .operations + t .operations) (s .attestations + t .attestations) (s .bytes + t .bytes)
@@ -87,11 +87,11 @@ abbrev pub attSize : Att → Size
 attSize a = size 0 1 (length (payloadOf a))
 
 abbrev pub marksSize : List Att → Size
-marksSize [] = zero-size
+marksSize [] = empty
 marksSize (a ∷ marks) = plus (attSize a) (marksSize marks)
 
 abbrev pub branchesSize : Tree → Size
-branchesSize end = zero-size
+branchesSize end = empty
 branchesSize (more o marks below rest) = plus (opSize o) (plus (marksSize marks) (plus (branchesSize below) (branchesSize rest)))
 
 abbrev pub sizeOf : List Att → Tree → Size
