@@ -22,4 +22,6 @@ examples = record {
   nothing = refl;
   longest = refl;
   longer = refl;
+  drawing = refl;
+  measured = refl;
 }

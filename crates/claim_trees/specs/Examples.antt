@@ -5,13 +5,14 @@ use Prim.Native.Nat.{ℕ}
 use lib.ListN.{replicate}
 use Rattle.std.specs.declared.cmp.Ordering.the-variants.{Less, Greater}
 use Rattle.format.specs.Outcome.{Outcome, got, fault, then}
-use Rattle.format.specs.Operations.{append}
+use Rattle.format.specs.Operations.{append, prepend, sha256}
 use Rattle.format.specs.Attestations.{unknown, bitcoin, bitcoinTag}
-use Rattle.format.specs.Nodes.{claim}
+use Rattle.format.specs.Nodes.{Claim, claim}
 use Rattle.format.specs.Files.{said, head, fileAt}
 use Rattle.claim_trees.specs.Order.{byteOrder, attOrder}
 use Rattle.claim_trees.specs.Union.{union}
 use Rattle.claim_trees.specs.Bytes.{shortest, fileOf, fileBytes}
+use Rattle.claim_trees.specs.Size.{size, sizeOf}
 use Rattle.claim_trees.specs.Gathered.{gathered, written}
 
 abbrev pub T : List ℕ
@@ -50,6 +51,16 @@ prepending = 0xf1 ∷ 0x01 ∷ 0xbb ∷ 0x00 ∷ (T ++ (0x00 ∷ []))
 abbrev pub height : ℕ → ℕ → List ℕ
 height a b = 0x00 ∷ (bitcoinTag ++ (0x02 ∷ a ∷ b ∷ []))
 
+-- the claims that docs/CLAIMS.md draws, out of order and one of them twice
+abbrev pub drawn : List Claim
+drawn =
+    claim (prepend (0xbb ∷ []) ∷ []) (unknown T [])
+    ∷ claim (append (0xaa ∷ []) ∷ sha256 ∷ []) (bitcoin 256)
+    ∷ claim [] (bitcoin 129)
+    ∷ claim (prepend (0xbb ∷ []) ∷ []) (unknown T [])
+    ∷ claim (append (0xaa ∷ []) ∷ []) (unknown T [])
+    ∷ []
+
 pub record Examples : Type 0 where
   -- two files in either order
   pub two : merged (file appending) (file prepending) ≡ got (file (0xff ∷ (appending ++ prepending))) 78
@@ -70,3 +81,7 @@ pub record Examples : Type 0 where
   pub longest : fileAt (file (0xf0 ∷ 0xe0 ∷ 0x1f ∷ (replicate 4064 0x00 ++ (0x00 ∷ (T ++ (0x00 ∷ []))))))
       ≡ got (said (head 32 zeros) (claim (append (replicate 4064 0x00) ∷ []) (unknown T []) ∷ [])) 4142
   pub longer : fileAt (file (0xf0 ∷ 0xe1 ∷ 0x1f ∷ (replicate 4065 0x00 ++ (0x00 ∷ (T ++ (0x00 ∷ [])))))) ≡ fault 9 65
+  -- the drawn example
+  pub drawing : written zeros drawn
+      ≡ file (0xff ∷ (height 0x81 0x01 ++ (0xff ∷ 0xf0 ∷ 0x01 ∷ 0xaa ∷ 0xff ∷ 0x00 ∷ (T ++ (0x00 ∷ 0x08 ∷ (height 0x80 0x02 ++ prepending))))))
+  pub measured : sizeOf (gathered drawn .marks) (gathered drawn .branches) ≡ size 3 4 6
