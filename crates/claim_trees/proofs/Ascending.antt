@@ -1,11 +1,10 @@
 -- The claims of a sorted tree ascend as they are written.
 use mathlib.Core.Path.{_≡_, refl, sym, ap, subst, _∙_}
-use mathlib.Core.Bool.{true, _&&_}
+use mathlib.Core.Bool.{true}
 use mathlib.Core.List.{List, [], _∷_, _++_, map}
-use mathlib.Core.Logic.{_⊎_, inl, inr}
+use mathlib.Core.Logic.{inl, inr}
 use Rattle.std.specs.Orderings.{isLt, thenBy}
 use Rattle.std.specs.declared.cmp.Ordering.{Ordering}
-use Rattle.std.specs.declared.cmp.Ordering.the-variants.{Less}
 use Rattle.std.proofs.shelf.Tests.{and-parts, and-from}
 use Rattle.format.specs.Operations.{Op}
 use Rattle.format.specs.Attestations.{Att}
@@ -13,7 +12,7 @@ use Rattle.format.specs.Nodes.{Claim, claim, under}
 use Rattle.claim_trees.specs.Tree.{Tree, end, more, here, through, claims, In, Apart, Claims}
 use Rattle.claim_trees.specs.Order.{opOrder, attOrder, pathOrder, claimOrder, ahead, rising, ascends, before, sorted, Strict-total, Order-law}
 use Rattle.claim_trees.proofs.Orders.{ops, atts, claims-ordered, is-less, less-itself}
-use Rattle.claim_trees.proofs.Kept.{Parts, parts}
+use Rattle.claim_trees.proofs.Kept.{parts}
 use Rattle.claim_trees.proofs.Listing.{listed}
 use Rattle.claim_trees.proofs.Unique.{after, beyond}
 
@@ -83,7 +82,7 @@ through-rising (more o m b r) h =
     (under-rising o (claims m b) (node-rising m b (w .marks) (through-rising b (w .below))))
     (through-rising r (w .rest))
     (λ x y i j. let e = under-is o (claims m b) x i in
-      subst (λ z. isLt (claimOrder z y) ≡ true) (sym (e .1)) (behind o r (e .0) (y .path) (y .attestation) (w .first) (w .rest) j))
+    subst (λ z. isLt (claimOrder z y) ≡ true) (sym (e .1)) (behind o r (e .0) (y .path) (y .attestation) (w .first) (w .rest) j))
 
 pub written-rising : (m : List Att) (t : Tree) → ascends m ≡ true → sorted t ≡ true → rising claimOrder (claims m t) ≡ true
 written-rising m t h k = node-rising m t h (through-rising t k)

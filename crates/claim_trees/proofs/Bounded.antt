@@ -1,5 +1,5 @@
 -- No count of the claims of a file passes the file's length.
-use mathlib.Core.Path.{_≡_, refl, sym, ap, subst, _∙_}
+use mathlib.Core.Path.{_≡_, refl, sym, subst}
 use mathlib.Core.List.{List, [], _∷_, _++_, map}
 use Prim.Native.Nat.{ℕ, _+_, _^_, _≤_, _<_}
 use native.Mathlib.Omega.{arith}
@@ -8,19 +8,19 @@ use Rattle.std.proofs.shelf.Lists.{length-append}
 use Rattle.format.specs.declared.Kind.{Kind}
 use Rattle.format.specs.Outcome.{got}
 use Rattle.format.specs.Operations.{Op, opOf}
-use Rattle.format.specs.Attestations.{Att, payloadLimit, addressLimit}
+use Rattle.format.specs.Attestations.{Att, addressLimit}
 use Rattle.format.specs.Nodes.{Claim, under}
 use Rattle.format.specs.Files.{mark, Said, fileAt}
-use Rattle.format.specs.Grammar.{Number, Block, block, Argument, sha256, append, prepend, reverse, hexlify, Content, height, address, other, Branch, Node, attestation, operation, last, another, File, proof}
+use Rattle.format.specs.Grammar.{Block, block, Argument, sha256, append, prepend, reverse, hexlify, Content, height, address, other, Branch, Node, attestation, operation, last, another, File, proof}
 use Rattle.claim_trees.specs.Tree.{Held, held, here, end, more}
 use Rattle.claim_trees.specs.Order.{argumentOf}
 use Rattle.claim_trees.specs.Bytes.{shortest, payloadOf}
-use Rattle.claim_trees.specs.Size.{Size, marksSize, branchesSize, sizeOf}
+use Rattle.claim_trees.specs.Size.{Size, sizeOf}
 use Rattle.claim_trees.specs.Gathered.{line, gathered}
 use Rattle.claim_trees.proofs.Shortest.{shortest-is}
 use Rattle.claim_trees.proofs.Gathering.{holds-branch, gathered-holds, holds-one, gathered-append}
 use Rattle.claim_trees.proofs.Fitting.{node-some, spelled-file}
-use Rattle.claim_trees.proofs.Sizes.{AtMost, unite-most, unify-most, union-sized}
+use Rattle.claim_trees.proofs.Sizes.{unite-most, unify-most, union-sized}
 
 pub record UpTo (s : Size) (n : ℕ) : Type 0 where
   pub operations : s .operations ≤ n

@@ -1,8 +1,8 @@
 -- What is written is the canonical file, and there is no other.
 use mathlib.Core.Path.{_≡_, refl, sym, ap, subst, _∙_}
-use mathlib.Core.Bool.{Bool, true, false, _&&_, true≢false}
+use mathlib.Core.Bool.{true, false, _&&_, true≢false}
 use mathlib.Core.List.{List, [], _∷_, _++_, map}
-use mathlib.Core.Logic.{_⊎_, inl, inr}
+use mathlib.Core.Logic.{inl, inr}
 use Prim.Native.Nat.{ℕ, _<_}
 use lib.ListN.{length}
 use Rattle.std.specs.shelf.Lists.{All}
@@ -19,12 +19,12 @@ use Rattle.claim_trees.specs.Tree.{Tree, end, more, Held, held, here, through,
 use Rattle.claim_trees.specs.Order.{attOrder, claimOrder, ahead, rising, ascends, before, sorted}
 use Rattle.claim_trees.specs.Bytes.{opBytes, attBytes, ff, none, nil, marksBytes, branchesBytes, nodeBytes, fileOf}
 use Rattle.claim_trees.specs.Size.{Size, Sized, within}
-use Rattle.claim_trees.specs.Gathered.{gathered, written, Holds}
+use Rattle.claim_trees.specs.Gathered.{gathered, written}
 use Rattle.claim_trees.specs.Canonical.{Later, Operations, last-operation, operation, Items, operations, last-attestation, attestation, Canonical}
 use Rattle.claim_trees.specs.Laws.{Fitting, Canonical-law}
 use Rattle.claim_trees.proofs.Orders.{claims-ordered, is-less}
 use Rattle.claim_trees.proofs.Listing.{listed}
-use Rattle.claim_trees.proofs.Kept.{Parts, parts, whole}
+use Rattle.claim_trees.proofs.Kept.{parts, whole}
 use Rattle.claim_trees.proofs.Unique.{after, witness, beyond}
 use Rattle.claim_trees.proofs.Ascending.{written-rising}
 use Rattle.claim_trees.proofs.Gathering.{alike-back, alike-trans, filled-from, gathered-holds, holds-one, gathered-alike}
@@ -131,6 +131,7 @@ not-last [] (more o m b r) h = refl
 
 mutual
   unfolding through marksBytes branchesBytes
+
   planted : {cs : List Claim} {bs : List ℕ} → Operations cs bs → Planted cs bs
   planted (last-operation o i) =
       let g = grown i in
@@ -147,7 +148,11 @@ mutual
         branches = more o (g .marks) (g .branches) (r .branches);
         sorts = whole o (g .marks) (g .branches) (r .branches) (record {
           first = before-from o (r .branches) (r .sorts) (subst (All (λ d. Later o (d .path))) (sym (r .says)) later);
-          marks = g .ascend; some = g .some; below = g .sorts; rest = r .sorts });
+          marks = g .ascend;
+          some = g .some;
+          below = g .sorts;
+          rest = r .sorts;
+        });
         some = refl;
         says = λ i. map (under o) (g .says i) ++ r .says i;
         spells = λ i. ff (r .some i) ++ ((opBytes o ++ g .spells i) ++ r .spells i);
@@ -207,9 +212,10 @@ apart digest other cs ds s t k l f g x y v w e =
     let a = reread digest cs s k f x v in
     let b = reread other ds t l g y w in
     let q : said (head 32 digest) (a .0) ≡ said (head 32 other) (b .0) = ap what (sym (a .1) ∙ (ap fileAt e ∙ b .1)) in
-    let p : a .0 ≡ b .0 = ap (λ s. s .claims) q in
-    ( ap (λ s. s .head .digest) q
-    , alike-trans cs (a .0) ds (alike-back (a .0) cs (a .2)) (subst (λ z. Alike z ds) (sym p) (b .2)) )
+    let p : a .0 ≡ b .0 = ap (λ s. s .claims) q in (
+      ap (λ s. s .head .digest) q,
+      alike-trans cs (a .0) ds (alike-back (a .0) cs (a .2)) (subst (λ z. Alike z ds) (sym p) (b .2)),
+    )
 
 again : (digest : List ℕ) (cs : List Claim) (s : Size) (t : Said) (n : ℕ) → length digest ≡ 32 → Fitting cs → Sized cs s → within s ≡ true
     → fileAt (written digest cs) ≡ got t n → written (t .head .digest) (t .claims) ≡ written digest cs

@@ -1,5 +1,5 @@
 -- The files to try, computed.
-use mathlib.Core.Path.{_≡_, refl}
+use mathlib.Core.Path.{refl}
 use Rattle.format.specs.Numbers.{numberFrom, numberAt}
 use Rattle.format.specs.Attestations.{same, addressBytes}
 use Rattle.format.specs.Nodes.{nodeFrom, nodeAt}

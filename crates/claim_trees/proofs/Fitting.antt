@@ -1,26 +1,25 @@
 -- Every claim of a proof file is one that fits, and so is every claim of a lawful tree, node by node.
 use mathlib.Core.Path.{_≡_, refl, sym, ap, subst, _∙_}
-use mathlib.Core.Bool.{Bool, true, false, _&&_, not}
+use mathlib.Core.Bool.{Bool, true, false, not}
 use mathlib.Core.List.{List, [], _∷_, _++_, map}
-use mathlib.Core.Logic.{_⊎_, inl, inr}
+use mathlib.Core.Logic.{inl, inr}
 use Prim.Native.Nat.{ℕ, _+_, _^_, _≤_, _<_}
 use native.Mathlib.Omega.{arith}
-use lib.Dec.{ltb, leb, eqb}
 use lib.ListN.{length}
 use Rattle.std.proofs.shelf.Tests.{and-parts, and-from, lt-ltb, le-leb, eq-eqb}
 use Rattle.std.proofs.shelf.Lists.{length-append, length-map}
 use Rattle.format.specs.declared.Kind.{Kind}
 use Rattle.format.specs.Outcome.{Outcome, got}
 use Rattle.format.specs.Operations.{Op, opOf, resultSize, messageLimit, pathLimit}
-use Rattle.format.specs.Attestations.{Att, pendingTag, bitcoinTag, payloadLimit, addressLimit, same}
+use Rattle.format.specs.Attestations.{Att, pendingTag, bitcoinTag, payloadLimit, addressLimit}
 use Rattle.format.specs.Nodes.{Claim, under}
 use Rattle.format.specs.Files.{Said, fileAt}
-use Rattle.format.specs.Grammar.{Number, Block, block, Argument, sha256, append, prepend, reverse, hexlify, Content, height, address, other, Branch, Node, attestation, operation, last, another, File, proof}
+use Rattle.format.specs.Grammar.{Block, block, Argument, sha256, append, prepend, reverse, hexlify, Content, height, address, other, Branch, Node, attestation, operation, last, another, File, proof}
 use Rattle.format.proofs.Sound.{Reads, sound-file, each-address}
 use Rattle.format.proofs.Complete.{not-same}
 use Rattle.claim_trees.specs.Tree.{In}
 use Rattle.claim_trees.specs.Laws.{Fitting}
-use Rattle.claim_trees.specs.Lawful.{resultOf, argumentFits, opFits, attFits, pathFits, fitsAt, claimFits, every}
+use Rattle.claim_trees.specs.Lawful.{resultOf, argumentFits, opFits, attFits, pathFits, fitsAt, every}
 
 -- ---- a test of every member
 

@@ -1,9 +1,9 @@
 -- How a tree comes to hold a list of claims, and that one tree does.
-use mathlib.Core.Path.{_≡_, refl, sym, ap, subst, _∙_}
+use mathlib.Core.Path.{_≡_, refl, sym, ap, subst}
 use mathlib.Core.Bool.{true}
 use mathlib.Core.List.{List, [], _∷_, _++_, map}
 use mathlib.Core.Logic.{_⊎_, inl, inr, ⊎-elim}
-use Prim.Native.Nat.{ℕ, _<_}
+use Prim.Native.Nat.{_<_}
 use native.Mathlib.Omega.{arith}
 use lib.ListN.{length}
 use Rattle.std.proofs.shelf.Lists.{append-nil}
@@ -11,7 +11,7 @@ use Rattle.format.specs.Operations.{Op}
 use Rattle.format.specs.Attestations.{Att}
 use Rattle.format.specs.Nodes.{Claim, claim, under}
 use Rattle.format.specs.FirstFault.{Iff}
-use Rattle.claim_trees.specs.Tree.{Tree, end, more, Held, held, blank, here, through, claims, In, Alike, Claims, filled}
+use Rattle.claim_trees.specs.Tree.{Tree, end, more, Held, held, blank, here, through, claims, In, Alike, filled}
 use Rattle.claim_trees.specs.Order.{ascends, sorted}
 use Rattle.claim_trees.specs.Union.{unite, unify, union}
 use Rattle.claim_trees.specs.Gathered.{line, gathered, Holds}
@@ -35,7 +35,8 @@ map-in f y (x ∷ xs) (inr i) = let h = map-in f y xs i in (h .0, (inr (h .1 .0)
 pub alike-map : {A B : Type 0} (f : A → B) (xs ys : List A) → Alike xs ys → Alike (map f xs) (map f ys)
 alike-map f xs ys h z = (
   (λ i. let e = map-in f z xs i in subst (λ w. In w (map f ys)) (sym (e .1 .1)) (in-map f (e .0) ys (h (e .0) .0 (e .1 .0)))),
-  (λ i. let e = map-in f z ys i in subst (λ w. In w (map f xs)) (sym (e .1 .1)) (in-map f (e .0) xs (h (e .0) .1 (e .1 .0)))))
+  (λ i. let e = map-in f z ys i in subst (λ w. In w (map f xs)) (sym (e .1 .1)) (in-map f (e .0) xs (h (e .0) .1 (e .1 .0)))),
+)
 
 pub alike-same : {A : Type 0} (xs : List A) → Alike xs xs
 alike-same xs x = ((λ i. i), (λ i. i))
@@ -54,18 +55,19 @@ union-in c x y =
     let l = listed (c .path) (c .attestation) (unite (x .marks) (y .marks)) (unify (x .branches) (y .branches)) in
     let a = listed (c .path) (c .attestation) (x .marks) (x .branches) in
     let b = listed (c .path) (c .attestation) (y .marks) (y .branches) in
-    let u = union-claims (c .path) (c .attestation) (x .marks) (x .branches) (y .marks) (y .branches) in
-    ( (λ i. ⊎-elim (λ j. inl (a .1 j)) (λ j. inr (b .1 j)) (u .0 (l .0 i)))
-    , (λ i. l .1 (u .1 (⊎-elim (λ j. inl (a .0 j)) (λ j. inr (b .0 j)) i))) )
+    let u = union-claims (c .path) (c .attestation) (x .marks) (x .branches) (y .marks) (y .branches) in (
+      (λ i. ⊎-elim (λ j. inl (a .1 j)) (λ j. inr (b .1 j)) (u .0 (l .0 i))),
+      (λ i. l .1 (u .1 (⊎-elim (λ j. inl (a .0 j)) (λ j. inr (b .0 j)) i))),
+    )
 
 -- trees with the same claims are the same
 pub same-tree : (x y : Held) → ascends (x .marks) ≡ true → ascends (y .marks) ≡ true → sorted (x .branches) ≡ true → sorted (y .branches) ≡ true
     → Alike (claims (x .marks) (x .branches)) (claims (y .marks) (y .branches)) → x ≡ y
 same-tree x y h k p q s =
     let e = unique (x .marks) (y .marks) (x .branches) (y .branches) h k p q (λ os a.
-      let l = listed os a (x .marks) (x .branches) in
-      let r = listed os a (y .marks) (y .branches) in
-      ((λ i. r .0 (s (claim os a) .0 (l .1 i))), (λ i. l .0 (s (claim os a) .1 (r .1 i))))) in
+    let l = listed os a (x .marks) (x .branches) in
+    let r = listed os a (y .marks) (y .branches) in
+    ((λ i. r .0 (s (claim os a) .0 (l .1 i))), (λ i. l .0 (s (claim os a) .1 (r .1 i))))) in
     λ i. held (e .0 i) (e .1 i)
 
 -- ---- what holds which claims
@@ -91,7 +93,12 @@ unfolding through
 holds-branch o x cs l h = record {
   marks = refl;
   branches = whole o (x .marks) (x .branches) end (record {
-    first = refl; marks = h .marks; some = filled-from (x .marks) (x .branches) cs l (h .claims); below = h .branches; rest = refl });
+    first = refl;
+    marks = h .marks;
+    some = filled-from (x .marks) (x .branches) cs l (h .claims);
+    below = h .branches;
+    rest = refl;
+  });
   claims = subst (λ z. Alike z (map (under o) cs)) (sym (append-nil (map (under o) (claims (x .marks) (x .branches)))))
       (alike-map (under o) (claims (x .marks) (x .branches)) cs (h .claims));
 }
@@ -102,7 +109,8 @@ holds-union x y cs ds h k = record {
   branches = unify-sorted (x .branches) (y .branches) (h .branches) (k .branches);
   claims = λ c. let u = union-in c x y in (
     (λ i. ⊎-elim (λ j. in-left c cs ds (h .claims c .0 j)) (λ j. in-right c cs ds (k .claims c .0 j)) (u .0 i)),
-    (λ i. u .1 (⊎-elim (λ j. inl (h .claims c .1 j)) (λ j. inr (k .claims c .1 j)) (in-either c cs ds i))));
+    (λ i. u .1 (⊎-elim (λ j. inl (h .claims c .1 j)) (λ j. inr (k .claims c .1 j)) (in-either c cs ds i))),
+  );
 }
 
 -- the same claims in another order, or some of them again

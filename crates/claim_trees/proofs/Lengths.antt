@@ -2,7 +2,7 @@
 use mathlib.Core.Path.{_≡_, refl, sym, ap, _∙_}
 use mathlib.Core.Bool.{Bool, true, false, _&&_}
 use mathlib.Core.List.{List, [], _∷_, _++_}
-use Prim.Native.Nat.{ℕ, _+_}
+use Prim.Native.Nat.{ℕ}
 use native.Mathlib.Omega.{arith}
 use lib.ListN.{length}
 use Rattle.std.proofs.shelf.Lists.{append-nil, append-assoc, length-append}
@@ -11,7 +11,6 @@ use Rattle.format.specs.Attestations.{Att, pending, bitcoin, unknown, pendingTa
 use Rattle.format.specs.Files.{mark}
 use Rattle.format.proofs.Sound.{mark-long}
 use Rattle.claim_trees.specs.Tree.{Tree, end, more}
-use Rattle.claim_trees.specs.Order.{tagOf}
 use Rattle.claim_trees.specs.Bytes.{shortest, block, opBytes, payloadOf, attBytes, ff, none, nil, marksBytes, branchesBytes, nodeBytes, fileBytes}
 use Rattle.claim_trees.specs.Onto.{blockLength, opLength, payloadLength, attLength, ffLength, marksLength, branchesLength, nodeLength, fileLength, ffOnto, blockOnto, opOnto, attOnto, marksOnto, branchesOnto, nodeOnto, fileOnto, Onto-law}
 
@@ -54,9 +53,9 @@ branches-onto end acc = sym (append-nil acc)
 branches-onto (more o m b r) acc =
     branches-onto r _
     ∙ (ap (λ z. z ++ branchesBytes r) (branches-onto b _
-        ∙ ap (λ z. z ++ branchesBytes b) (marks-onto _ m (none b)
-        ∙ ap (λ z. z ++ marksBytes m (none b)) (op-onto _ o
-        ∙ ap (λ z. z ++ opBytes o) (ff-onto acc (none r)))))
+    ∙ ap (λ z. z ++ branchesBytes b) (marks-onto _ m (none b)
+    ∙ ap (λ z. z ++ marksBytes m (none b)) (op-onto _ o
+    ∙ ap (λ z. z ++ opBytes o) (ff-onto acc (none r)))))
     ∙ regroup acc (ff (none r)) (opBytes o) (marksBytes m (none b)) (branchesBytes b) (branchesBytes r))
 
 pub node-onto : (acc : List ℕ) (m : List Att) (t : Tree) → nodeOnto acc m t ≡ acc ++ nodeBytes m t

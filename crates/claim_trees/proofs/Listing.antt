@@ -1,8 +1,8 @@
 -- The claims in written order are exactly those of the node.
-use mathlib.Core.Path.{_≡_, refl, ap, subst, _∙_}
+use mathlib.Core.Path.{_≡_, ap, subst, _∙_}
 use mathlib.Core.List.{List, [], _∷_, _++_, map}
 use mathlib.Core.Logic.{_⊎_, inl, inr, ⊎-elim}
-use Prim.Native.Nat.{ℕ, suc}
+use Prim.Native.Nat.{suc}
 use native.Mathlib.Omega.{arith}
 use lib.ListN.{length}
 use Rattle.format.specs.Operations.{Op}
@@ -50,10 +50,10 @@ not-under o a (c ∷ cs) (inr i) = not-under o a cs i
 pub under-in : (o : Op) (os : List Op) (a : Att) (p : Op) (cs : List Claim) → In (claim (o ∷ os) a) (map (under p) cs) → (o ≡ p) × In (claim os a) cs
 under-in o os a p [] i = elim i [ ]
 under-in o os a p (c ∷ cs) (inl e) =
-  let q : o ∷ os ≡ p ∷ c .path = ap (λ c. c .path) e in
-  let r : a ≡ c .attestation = ap (λ c. c .attestation) e in
-  let s : os ≡ c .path = cc in
-  (cc, inl (ap (λ z. claim z a) s ∙ ap (λ z. claim (c .path) z) r))
+    let q : o ∷ os ≡ p ∷ c .path = ap (λ c. c .path) e in
+    let r : a ≡ c .attestation = ap (λ c. c .attestation) e in
+    let s : os ≡ c .path = cc in
+    (cc, inl (ap (λ z. claim z a) s ∙ ap (λ z. claim (c .path) z) r))
 under-in o os a p (c ∷ cs) (inr i) = let r = under-in o os a p cs i in (r .0, inr (r .1))
 
 pub in-under : (o : Op) (os : List Op) (a : Att) (cs : List Claim) → In (claim os a) cs → In (claim (o ∷ os) a) (map (under o) cs)
@@ -71,21 +71,23 @@ module _ (o : Op) (os : List Op) (a : Att) (below : (m : List Att) (t : Tree) �
   unfolding through
   through-in end i = elim i [ ]
   through-in (more p m b r) i = ⊎-elim
-    (λ j. let q = under-in o os a p (claims m b) j in inl (q .0, below m b .0 (q .1)))
-    (λ j. inr (through-in r j))
-    (in-either (claim (o ∷ os) a) (map (under p) (claims m b)) (through r) i)
+      (λ j. let q = under-in o os a p (claims m b) j in inl (q .0, below m b .0 (q .1)))
+      (λ j. inr (through-in r j))
+      (in-either (claim (o ∷ os) a) (map (under p) (claims m b)) (through r) i)
 
   in-through : (t : Tree) → Through o (Claims os a) t → In (claim (o ∷ os) a) (through t)
   unfolding through
   in-through end i = elim i [ ]
   in-through (more p m b r) (inl q) = in-left (claim (o ∷ os) a) (map (under p) (claims m b)) (through r)
-    (subst (λ z. In (claim (o ∷ os) a) (map (under z) (claims m b))) (q .0) (in-under o os a (claims m b) (below m b .1 (q .1))))
+      (subst (λ z. In (claim (o ∷ os) a) (map (under z) (claims m b))) (q .0) (in-under o os a (claims m b) (below m b .1 (q .1))))
   in-through (more p m b r) (inr i) = in-right (claim (o ∷ os) a) (map (under p) (claims m b)) (through r) (in-through r i)
 
 pub listed : Claims-are-listed
-listed [] a m t =
-  ( (λ i. ⊎-elim (here-in a m) (λ j. absurd (not-through a t j)) (in-either (claim [] a) (map here m) (through t) i))
-  , (λ i. in-left (claim [] a) (map here m) (through t) (in-here a m i)) )
-listed (o ∷ os) a m t =
-  ( (λ i. ⊎-elim (λ j. absurd (not-here o os a m j)) (through-in o os a (listed os a) t) (in-either (claim (o ∷ os) a) (map here m) (through t) i))
-  , (λ i. in-right (claim (o ∷ os) a) (map here m) (through t) (in-through o os a (listed os a) t i)) )
+listed [] a m t = (
+  (λ i. ⊎-elim (here-in a m) (λ j. absurd (not-through a t j)) (in-either (claim [] a) (map here m) (through t) i)),
+  (λ i. in-left (claim [] a) (map here m) (through t) (in-here a m i)),
+)
+listed (o ∷ os) a m t = (
+  (λ i. ⊎-elim (λ j. absurd (not-here o os a m j)) (through-in o os a (listed os a) t) (in-either (claim (o ∷ os) a) (map here m) (through t) i)),
+  (λ i. in-right (claim (o ∷ os) a) (map here m) (through t) (in-through o os a (listed os a) t i)),
+)

@@ -1,12 +1,12 @@
 -- The orders are strict and total.
 use mathlib.Core.Path.{_≡_, refl, sym, ap, subst, _∙_}
-use mathlib.Core.Bool.{true, false, cond, true≢false}
+use mathlib.Core.Bool.{true, cond, true≢false}
 use mathlib.Core.List.{List, [], _∷_}
 use Prim.Native.Nat.{ℕ, _<_}
 use native.Mathlib.Omega.{arith}
 use lib.Dec.{eqb}
 use Rattle.std.specs.Keys.{unsigned, rank, ranks}
-use Rattle.std.specs.Lexical.{lex, lex-flip, lex-trans}
+use Rattle.std.specs.Lexical.{lex-flip, lex-trans}
 use Rattle.std.specs.Orderings.{Ranked, isLt, isGt, reversed, thenBy}
 use Rattle.std.specs.declared.cmp.Ordering.{Ordering}
 use Rattle.std.specs.declared.cmp.Ordering.the-variants.{Less, Equal, Greater}

@@ -69,14 +69,16 @@ same-total f (x ∷ xs) ys a b h =
     let i = h x .0 (inl refl) in
     let r = same-total f xs (without x ys i) (a .1) (without-apart x ys i b) (λ z. (
       (λ j. ⊎-elim (λ e. absurd (a .0 (subst (λ w. In w xs) e j))) (λ k. k) (in-without x z ys i (h z .0 (inr j)))),
-      (λ j. ⊎-elim (λ e. absurd (without-gone x ys i b (subst (λ w. In w (without x ys i)) e j))) (λ k. k) (h z .1 (without-in x z ys i j))))) in
+      (λ j. ⊎-elim (λ e. absurd (without-gone x ys i b (subst (λ w. In w (without x ys i)) e j))) (λ k. k) (h z .1 (without-in x z ys i j))),
+    )) in
     ap (λ n. f x + n) r ∙ sym (without-total x f ys i)
 
 pub lists-total : {A : Type 0} {P Q : A → Type 0} (f : A → ℕ) (xs ys : List A) → Lists P xs → Lists Q ys → ((x : A) → P x → Q x) → ((x : A) → Q x → P x)
     → total f xs ≡ total f ys
 lists-total f xs ys l m to from = same-total f xs ys (l .apart) (m .apart) (λ x. (
   (λ i. m .members x .1 (to x (l .members x .0 i))),
-  (λ i. l .members x .1 (from x (m .members x .0 i)))))
+  (λ i. l .members x .1 (from x (m .members x .0 i))),
+))
 
 pub lists-length : {A : Type 0} {P Q : A → Type 0} (xs ys : List A) → Lists P xs → Lists Q ys → ((x : A) → P x → Q x) → ((x : A) → Q x → P x)
     → length xs ≡ length ys
@@ -88,10 +90,12 @@ pub apart-append : {A : Type 0} (xs ys : List A) → Apart xs → Apart ys → (
 apart-append [] ys a b h = b
 apart-append (x ∷ xs) ys a b h = (
   (λ i. ⊎-elim (a .0) (h x (inl refl)) (in-either x xs ys i)),
-  apart-append xs ys (a .1) b (λ z i j. h z (inr i) j))
+  apart-append xs ys (a .1) b (λ z i j. h z (inr i) j),
+)
 
 pub apart-map : {A B : Type 0} (f : A → B) → ((x y : A) → f x ≡ f y → x ≡ y) → (xs : List A) → Apart xs → Apart (map f xs)
 apart-map f one [] a = tt
 apart-map f one (x ∷ xs) a = (
   (λ i. let e = map-in f (f x) xs i in a .0 (subst (λ z. In z xs) (sym (one x (e .0) (e .1 .1))) (e .1 .0))),
-  apart-map f one xs (a .1))
+  apart-map f one xs (a .1),
+)

@@ -1,11 +1,9 @@
 -- The shortest form of a number: it is one of the number's forms, and no other is shorter.
 use mathlib.Core.Path.{_≡_, refl, sym, ap, subst, _∙_}
-use mathlib.Core.Bool.{cond}
 use mathlib.Core.List.{List, [], _∷_, _++_}
 use mathlib.Core.Logic.{⊎-elim}
 use Prim.Native.Nat.{ℕ, zero, suc, _+_, _-_, _*_, _/_, _%_, _^_, _≤_, _<_}
 use native.Mathlib.Omega.{arith}
-use lib.Dec.{ltb}
 use lib.ListN.{length, drop}
 use Rattle.std.proofs.shelf.Tests.{lt-ltb, le-ltb, cond-true, cond-false, cases-lt}
 use Rattle.std.proofs.shelf.Lists.{length-append, length-drop}
@@ -43,19 +41,19 @@ valued n = omega arith
 groups-are : (k n : ℕ) → n < room k → Groups (groups k n) n
 groups-are zero n h = subst (λ z. Groups z n) (sym (groups-one zero n h)) (final h)
 groups-are (suc k) n h = ⊎-elim
-  (λ l. subst (λ z. Groups z n) (sym (groups-one (suc k) n l)) (final l))
-  (λ m. subst (λ z. Groups z n) (sym (groups-more k n m))
+    (λ l. subst (λ z. Groups z n) (sym (groups-one (suc k) n l)) (final l))
+    (λ m. subst (λ z. Groups z n) (sym (groups-more k n m))
     (subst (λ z. Groups ((128 + n % 128) ∷ groups k (n / 128)) z) (valued n)
-      (onward (omega arith) (groups-are k (n / 128) (divided n (room k) h)))))
-  (cases-lt n 128)
+    (onward (omega arith) (groups-are k (n / 128) (divided n (room k) h)))))
+    (cases-lt n 128)
 
 groups-short : (k n : ℕ) → length (groups k n) ≤ suc k
 groups-short zero n = let e : length (groups 0 n) ≡ 1 = ap length (groups-none n) in omega arith
 groups-short (suc k) n = ⊎-elim
-  (λ l. let e : length (groups (suc k) n) ≡ 1 = ap length (groups-one (suc k) n l) in omega arith)
-  (λ m. let e : length (groups (suc k) n) ≡ suc (length (groups k (n / 128))) = ap length (groups-more k n m) in
+    (λ l. let e : length (groups (suc k) n) ≡ 1 = ap length (groups-one (suc k) n l) in omega arith)
+    (λ m. let e : length (groups (suc k) n) ≡ suc (length (groups k (n / 128))) = ap length (groups-more k n m) in
     let h = groups-short k (n / 128) in omega arith)
-  (cases-lt n 128)
+    (cases-lt n 128)
 
 pub shortest-is : (n : ℕ) → n < 2 ^ 32 → Number (shortest n) n
 unfolding shortest
@@ -66,13 +64,13 @@ shortest-is n h = record { groups = groups-are 4 n (omega arith); short = groups
 least-by : {bs : List ℕ} {n : ℕ} → Groups bs n → Small bs → (k : ℕ) → n < room k → length (groups k n) ≤ length bs
 least-by (final {b = b} h) s k f = let e : length (groups k b) ≡ 1 = ap length (groups-one k b h) in omega arith
 least-by (onward {b = b} {bs = bs} {v = v} h g) s zero f =
-  let e : length (groups 0 (b - 128 + 128 * v)) ≡ 1 = ap length (groups-none (b - 128 + 128 * v)) in omega arith
+    let e : length (groups 0 (b - 128 + 128 * v)) ≡ 1 = ap length (groups-none (b - 128 + 128 * v)) in omega arith
 least-by (onward {b = b} {bs = bs} {v = v} h g) s (suc k) f =
-  let n = b - 128 + 128 * v in
-  let l : b < 256 = s .0 in
-  let d : n / 128 ≡ v = omega arith in
-  let r = least-by g (s .1) k (omega arith) in
-  ⊎-elim
+    let n = b - 128 + 128 * v in
+    let l : b < 256 = s .0 in
+    let d : n / 128 ≡ v = omega arith in
+    let r = least-by g (s .1) k (omega arith) in
+    ⊎-elim
     (λ m. let e : length (groups (suc k) n) ≡ 1 = ap length (groups-one (suc k) n m) in omega arith)
     (λ m. let e : length (groups (suc k) n) ≡ suc (length (groups k v)) = ap length (groups-more k n m ∙ ap (λ z. (128 + n % 128) ∷ groups k z) d) in omega arith)
     (cases-lt n 128)

@@ -2,8 +2,8 @@
 use mathlib.Core.Path.{_≡_, refl, sym, ap, subst, _∙_}
 use mathlib.Core.Bool.{true}
 use mathlib.Core.List.{List, [], _∷_, _++_, map}
-use mathlib.Core.Logic.{_⊎_, inl, inr, ⊎-elim}
-use Prim.Native.Nat.{ℕ, suc, _+_, _≤_}
+use mathlib.Core.Logic.{inl, inr, ⊎-elim}
+use Prim.Native.Nat.{ℕ, _+_, _≤_}
 use native.Mathlib.Omega.{arith}
 use lib.ListN.{length}
 use Rattle.std.proofs.shelf.Lists.{length-append, length-map}
@@ -13,15 +13,14 @@ use Rattle.format.specs.Operations.{Op}
 use Rattle.format.specs.Attestations.{Att}
 use Rattle.format.specs.Nodes.{Claim, claim, under}
 use Rattle.claim_trees.specs.Tree.{Tree, end, more, Held, held, here, through, claims, In, Alike, Apart, Through, Claims}
-use Rattle.claim_trees.specs.Order.{argumentOf, opOrder, attOrder, before, ascends, sorted}
+use Rattle.claim_trees.specs.Order.{opOrder, attOrder, ascends, sorted}
 use Rattle.claim_trees.specs.Union.{choose, place, unite, graft, unify, union}
-use Rattle.claim_trees.specs.Bytes.{payloadOf}
-use Rattle.claim_trees.specs.Size.{Size, size, Lists, Begins, total, lastArgument, payloadBytes, Sized, plus, opSize, attSize, marksSize, branchesSize, sizeOf, placeSize, uniteSize, graftSize, unifySize, Size-law}
+use Rattle.claim_trees.specs.Size.{Size, size, Begins, total, lastArgument, payloadBytes, Sized, plus, opSize, attSize, marksSize, branchesSize, sizeOf, placeSize, uniteSize, graftSize, unifySize, Size-law}
 use Rattle.claim_trees.specs.Gathered.{gathered, Holds}
 use Rattle.claim_trees.proofs.Orders.{ops, less-itself}
 use Rattle.claim_trees.proofs.Listing.{in-left, in-right, in-either, listed}
 use Rattle.claim_trees.proofs.Gathering.{in-map, map-in, alike-same, holds-union, holds-own, gathered-holds}
-use Rattle.claim_trees.proofs.Kept.{Parts, parts}
+use Rattle.claim_trees.proofs.Kept.{parts}
 use Rattle.claim_trees.proofs.Unique.{witness, beyond}
 use Rattle.claim_trees.proofs.Ascending.{claims-apart}
 use Rattle.claim_trees.proofs.Repeats.{total-append, lists-total, lists-length, apart-append, apart-map}
@@ -74,7 +73,7 @@ goes (more p m b r) s o os (inr i) =
     let w = parts p m b r s in
     ⊎-elim
     (λ j. let e = map-in (λ os. p ∷ os) (o ∷ os) (beginnings b) j in let d = cons-parts (e .1 .1) in
-      goes-on p m b r (goes b (w .below)) o os (e .0) (d .0) (d .1) (e .1 .0))
+    goes-on p m b r (goes b (w .below)) o os (e .0) (d .0) (d .1) (e .1 .0))
     (λ j. let g = goes r (w .rest) o os j in record { rest = g .rest; attestation = g .attestation; there = inr (g .there) })
     (in-either (o ∷ os) (map (λ os. p ∷ os) (beginnings b)) (beginnings r) i)
 
@@ -106,15 +105,16 @@ beginnings-apart end s = tt
 beginnings-apart (more o m b r) s =
     let w = parts o m b r s in
     let far : (os : List Op) → In (o ∷ os) (beginnings r) → ⊥ = λ os i.
-      let g = goes r (w .rest) o os i in less-itself ops o (beyond o r (w .first) (w .rest) o (Claims (os ++ g .rest) (g .attestation)) (g .there)) in
-    ( (λ i. ⊎-elim
-        (λ j. let e = map-in (λ os. o ∷ os) (o ∷ []) (beginnings b) j in not-empty b (subst (λ z. In z (beginnings b)) (sym (cons-parts (e .1 .1) .1)) (e .1 .0)))
-        (far [])
-        (in-either (o ∷ []) (map (λ os. o ∷ os) (beginnings b)) (beginnings r) i))
-    , apart-append (map (λ os. o ∷ os) (beginnings b)) (beginnings r)
-        (apart-map (λ os. o ∷ os) (λ x y e. cons-parts e .1) (beginnings b) (beginnings-apart b (w .below)))
-        (beginnings-apart r (w .rest))
-        (λ x i j. let e = map-in (λ os. o ∷ os) x (beginnings b) i in far (e .0) (subst (λ z. In z (beginnings r)) (e .1 .1) j)) )
+    let g = goes r (w .rest) o os i in less-itself ops o (beyond o r (w .first) (w .rest) o (Claims (os ++ g .rest) (g .attestation)) (g .there)) in (
+      (λ i. ⊎-elim
+          (λ j. let e = map-in (λ os. o ∷ os) (o ∷ []) (beginnings b) j in not-empty b (subst (λ z. In z (beginnings b)) (sym (cons-parts (e .1 .1) .1)) (e .1 .0)))
+          (far [])
+          (in-either (o ∷ []) (map (λ os. o ∷ os) (beginnings b)) (beginnings r) i)),
+      apart-append (map (λ os. o ∷ os) (beginnings b)) (beginnings r)
+          (apart-map (λ os. o ∷ os) (λ x y e. cons-parts e .1) (beginnings b) (beginnings-apart b (w .below)))
+          (beginnings-apart r (w .rest))
+          (λ x i j. let e = map-in (λ os. o ∷ os) x (beginnings b) i in far (e .0) (subst (λ z. In z (beginnings r)) (e .1 .1) j)),
+    )
 
 -- ---- counts
 
@@ -220,9 +220,9 @@ module _ (o : Op) (m : List Att) (b r : Tree) (f : (c : Tree) → unifySize b c 
   graft-by : (p : Op) (n : List Att) (c s : Tree) (k : Ordering)
       → graftSize o m b r (unifySize b) (unifySize r) s ≡ branchesSize (graft o m b r (unify b) (unify r) s)
       → choose k
-        (plus (opSize o) (plus (marksSize m) (plus (branchesSize b) (unifySize r (more p n c s)))))
-        (plus (opSize o) (plus (uniteSize m n) (plus (unifySize b c) (unifySize r s))))
-        (plus (opSize p) (plus (marksSize n) (plus (branchesSize c) (graftSize o m b r (unifySize b) (unifySize r) s))))
+      (plus (opSize o) (plus (marksSize m) (plus (branchesSize b) (unifySize r (more p n c s)))))
+      (plus (opSize o) (plus (uniteSize m n) (plus (unifySize b c) (unifySize r s))))
+      (plus (opSize p) (plus (marksSize n) (plus (branchesSize c) (graftSize o m b r (unifySize b) (unifySize r) s))))
       ≡ branchesSize (choose k (more o m b (unify r (more p n c s))) (more o (unite m n) (unify b c) (unify r s)) (more p n c (graft o m b r (unify b) (unify r) s)))
   graft-by p n c s Less e = ap (λ z. plus (opSize o) (plus (marksSize m) (plus (branchesSize b) z))) (g (more p n c s))
   graft-by p n c s Equal e = λ i. plus (opSize o) (plus (unite-sized m n i) (plus (f c i) (g s i)))
@@ -281,7 +281,7 @@ pub record AtMost (s t u : Size) : Type 0 where
 most-place : (x : Att) (xs : List Att) → ((ys : List Att) → AtMost (uniteSize xs ys) (marksSize xs) (marksSize ys))
     → (y : Att) (ys : List Att) (r : Ordering) → AtMost (uniteSize (x ∷ xs) ys) (marksSize (x ∷ xs)) (marksSize ys)
     → AtMost (choose r (plus (attSize x) (uniteSize xs (y ∷ ys))) (plus (attSize x) (uniteSize xs ys)) (plus (attSize y) (uniteSize (x ∷ xs) ys)))
-      (marksSize (x ∷ xs)) (marksSize (y ∷ ys))
+    (marksSize (x ∷ xs)) (marksSize (y ∷ ys))
 most-place x xs h y ys Less ih = let k = h (y ∷ ys) in
     let a = k .operations in let b = k .attestations in let c = k .bytes in
     record { operations = omega arith; attestations = omega arith; bytes = omega arith }
@@ -304,10 +304,10 @@ most-graft : (o p : Op) (m n : List Att) (b c r s : Tree) (k : Ordering)
     → AtMost (unifySize r s) (branchesSize r) (branchesSize s)
     → AtMost (unifySize (more o m b r) s) (branchesSize (more o m b r)) (branchesSize s)
     → AtMost (choose k
-        (plus (opSize o) (plus (marksSize m) (plus (branchesSize b) (unifySize r (more p n c s)))))
-        (plus (opSize o) (plus (uniteSize m n) (plus (unifySize b c) (unifySize r s))))
-        (plus (opSize p) (plus (marksSize n) (plus (branchesSize c) (unifySize (more o m b r) s)))))
-      (branchesSize (more o m b r)) (branchesSize (more p n c s))
+    (plus (opSize o) (plus (marksSize m) (plus (branchesSize b) (unifySize r (more p n c s)))))
+    (plus (opSize o) (plus (uniteSize m n) (plus (unifySize b c) (unifySize r s))))
+    (plus (opSize p) (plus (marksSize n) (plus (branchesSize c) (unifySize (more o m b r) s)))))
+    (branchesSize (more o m b r)) (branchesSize (more p n c s))
 most-graft o p m n b c r s Less u v w x y =
     let a1 = v .operations in let a2 = v .attestations in let a3 = v .bytes in
     record { operations = omega arith; attestations = omega arith; bytes = omega arith }

@@ -1,6 +1,6 @@
 -- What is written is a node of the grammar, and so it is read back.
 use mathlib.Core.Path.{_≡_, refl, sym, ap, subst, _∙_}
-use mathlib.Core.Bool.{Bool, true, false, _&&_, not, true≢false}
+use mathlib.Core.Bool.{Bool, true, _&&_, not}
 use mathlib.Core.List.{List, [], _∷_, _++_, map}
 use Prim.Native.Nat.{ℕ, _+_, _^_, _≤_, _<_}
 use native.Mathlib.Omega.{arith}
@@ -10,7 +10,7 @@ use Rattle.std.proofs.shelf.Tests.{and-parts, and-from, ltb-true, leb-true, eqb
 use Rattle.std.proofs.shelf.Lists.{append-nil, append-assoc, length-append}
 use Rattle.format.specs.Outcome.{got}
 use Rattle.format.specs.Operations.{Op, sha256, append, prepend, reverse, hexlify, messageLimit, pathLimit}
-use Rattle.format.specs.Attestations.{Att, pending, bitcoin, unknown, pendingTag, bitcoinTag, payloadLimit, addressLimit, same, addressBytes}
+use Rattle.format.specs.Attestations.{Att, pending, bitcoin, unknown, pendingTag, bitcoinTag, payloadLimit, addressLimit, same}
 use Rattle.format.specs.Nodes.{Claim, under, nodeAt}
 use Rattle.format.specs.Grammar.{Block, Content, Branch, Node, last, another}
 use Rattle.format.specs.Grammar as grammar
@@ -21,7 +21,7 @@ use Rattle.claim_trees.specs.Order.{tagOf, sorted}
 use Rattle.claim_trees.specs.Bytes.{shortest, block, opBytes, payloadOf, attBytes, none, marksBytes, branchesBytes, nodeBytes}
 use Rattle.claim_trees.specs.Lawful.{resultOf, argumentFits, opFits, attFits, pathFits, fitsAt, every, marksFit, branchesFit}
 use Rattle.claim_trees.proofs.Shortest.{shortest-is, ends}
-use Rattle.claim_trees.proofs.Listing.{in-left, listed}
+use Rattle.claim_trees.proofs.Listing.{listed}
 use Rattle.claim_trees.proofs.Gathering.{in-map}
 use Rattle.claim_trees.proofs.Kept.{parts}
 use Rattle.claim_trees.proofs.Unique.{witness}
@@ -94,13 +94,13 @@ differs xs ys h e = false≢true (sym (not-true (same xs ys) h) ∙ subst (λ z.
 content-is : (a : Att) → attFits a ≡ true → Content (tagOf a) (payloadOf a) a
 content-is (bitcoin h) f = grammar.height (shortest-is h (ltb-true h (2 ^ 32) f))
 content-is (pending a) f =
-  let p = and-parts _ _ f in
-  grammar.address (block-is 0 addressLimit a (omega arith) (leb-true (length a) addressLimit (p .0)) (omega arith)) (address-each a (p .1))
+    let p = and-parts _ _ f in
+    grammar.address (block-is 0 addressLimit a (omega arith) (leb-true (length a) addressLimit (p .0)) (omega arith)) (address-each a (p .1))
 content-is (unknown tag ps) f =
-  let p = and-parts (eqb (length tag) 8) (leb (length ps) payloadLimit && (not (same tag bitcoinTag) && not (same tag pendingTag))) f in
-  let q = and-parts (leb (length ps) payloadLimit) (not (same tag bitcoinTag) && not (same tag pendingTag)) (p .1) in
-  let r = and-parts (not (same tag bitcoinTag)) (not (same tag pendingTag)) (q .1) in
-  grammar.other (differs tag bitcoinTag (r .0)) (differs tag pendingTag (r .1))
+    let p = and-parts (eqb (length tag) 8) (leb (length ps) payloadLimit && (not (same tag bitcoinTag) && not (same tag pendingTag))) f in
+    let q = and-parts (leb (length ps) payloadLimit) (not (same tag bitcoinTag) && not (same tag pendingTag)) (p .1) in
+    let r = and-parts (not (same tag bitcoinTag)) (not (same tag pendingTag)) (q .1) in
+    grammar.other (differs tag bitcoinTag (r .0)) (differs tag pendingTag (r .1))
 
 pub eight : (a : Att) → attFits a ≡ true → length (tagOf a) ≡ 8
 eight (bitcoin h) f = refl
@@ -110,28 +110,28 @@ eight (unknown tag ps) f = eqb-true (length tag) 8 (and-parts _ _ f .0)
 pub payload-long : (a : Att) → attFits a ≡ true → length (payloadOf a) ≤ payloadLimit
 payload-long (bitcoin h) f = let s = short-number h (ltb-true h (2 ^ 32) f) in omega arith
 payload-long (pending a) f =
-  let l = leb-true (length a) addressLimit (and-parts _ _ f .0) in
-  let s = short-number (length a) (omega arith) in
-  let e = length-append (shortest (length a)) a in omega arith
+    let l = leb-true (length a) addressLimit (and-parts _ _ f .0) in
+    let s = short-number (length a) (omega arith) in
+    let e = length-append (shortest (length a)) a in omega arith
 payload-long (unknown tag ps) f =
-  let p = and-parts (eqb (length tag) 8) (leb (length ps) payloadLimit && (not (same tag bitcoinTag) && not (same tag pendingTag))) f in
-  leb-true (length ps) payloadLimit (and-parts (leb (length ps) payloadLimit) (not (same tag bitcoinTag) && not (same tag pendingTag)) (p .1) .0)
+    let p = and-parts (eqb (length tag) 8) (leb (length ps) payloadLimit && (not (same tag bitcoinTag) && not (same tag pendingTag))) f in
+    leb-true (length ps) payloadLimit (and-parts (leb (length ps) payloadLimit) (not (same tag bitcoinTag) && not (same tag pendingTag)) (p .1) .0)
 
 mark-is : (depth size : ℕ) (a : Att) → attFits a ≡ true → Branch depth size (attBytes a) (here a ∷ [])
 mark-is depth size a f = grammar.attestation (eight a f) (block-is 0 payloadLimit (payloadOf a) (omega arith) (payload-long a f) (omega arith)) (content-is a f)
 
 -- ---- operations
 branch-is : (depth size : ℕ) (o : Op) (bs : List ℕ) (cs : List Claim) → depth < pathLimit → argumentFits o ≡ true → resultOf o size ≤ messageLimit
-  → Node (depth + 1) (resultOf o size) bs cs → Branch depth size (opBytes o ++ bs) (map (under o) cs)
+    → Node (depth + 1) (resultOf o size) bs cs → Branch depth size (opBytes o ++ bs) (map (under o) cs)
 branch-is depth size sha256 bs cs d f r n = grammar.operation {tag = 8} refl d grammar.sha256 r n
 branch-is depth size reverse bs cs d f r n = grammar.operation {tag = 242} refl d grammar.reverse r n
 branch-is depth size hexlify bs cs d f r n = grammar.operation {tag = 243} refl d grammar.hexlify r n
 branch-is depth size (append a) bs cs d f r n =
-  let p = and-parts _ _ f in
-  grammar.operation {tag = 240} refl d (grammar.append (block-is 1 messageLimit a (leb-true 1 (length a) (p .0)) (leb-true (length a) messageLimit (p .1)) (omega arith))) r n
+    let p = and-parts _ _ f in
+    grammar.operation {tag = 240} refl d (grammar.append (block-is 1 messageLimit a (leb-true 1 (length a) (p .0)) (leb-true (length a) messageLimit (p .1)) (omega arith))) r n
 branch-is depth size (prepend a) bs cs d f r n =
-  let p = and-parts _ _ f in
-  grammar.operation {tag = 241} refl d (grammar.prepend (block-is 1 messageLimit a (leb-true 1 (length a) (p .0)) (leb-true (length a) messageLimit (p .1)) (omega arith))) r n
+    let p = and-parts _ _ f in
+    grammar.operation {tag = 241} refl d (grammar.prepend (block-is 1 messageLimit a (leb-true 1 (length a) (p .0)) (leb-true (length a) messageLimit (p .1)) (omega arith))) r n
 
 -- ---- nodes: the attestations before what follows them
 module _ (depth size : ℕ) where
@@ -141,22 +141,22 @@ module _ (depth size : ℕ) where
   Follows (more o marks below rest) = Node depth size (branchesBytes (more o marks below rest)) (through (more o marks below rest))
 
   marked : (a : Att) (marks : List Att) (t : Tree) → attFits a ≡ true → marksFit marks ≡ true → Follows t
-    → Node depth size (nodeBytes (a ∷ marks) t) (claims (a ∷ marks) t)
+      → Node depth size (nodeBytes (a ∷ marks) t) (claims (a ∷ marks) t)
   unfolding marksBytes through branchesBytes
   marked a [] end f g n =
-    subst (λ z. Node depth size z (here a ∷ [])) (sym (append-nil (attBytes a ++ []) ∙ append-nil (attBytes a))) (last (mark-is depth size a f))
+      subst (λ z. Node depth size z (here a ∷ [])) (sym (append-nil (attBytes a ++ []) ∙ append-nil (attBytes a))) (last (mark-is depth size a f))
   marked a [] (more o marks below rest) f g n =
-    subst (λ z. Node depth size (255 ∷ z) (here a ∷ through (more o marks below rest)))
+      subst (λ z. Node depth size (255 ∷ z) (here a ∷ through (more o marks below rest)))
       (sym (ap (λ z. z ++ branchesBytes (more o marks below rest)) (append-nil (attBytes a))))
       (another (mark-is depth size a f) n)
   marked a (b ∷ marks) t f g n =
-    let p = and-parts _ _ g in
-    subst (λ z. Node depth size (255 ∷ z) (claims (a ∷ b ∷ marks) t))
+      let p = and-parts _ _ g in
+      subst (λ z. Node depth size (255 ∷ z) (claims (a ∷ b ∷ marks) t))
       (sym (append-assoc (attBytes a) (marksBytes (b ∷ marks) (none t)) (branchesBytes t)))
       (another (mark-is depth size a f) (marked b marks t (p .0) (p .1) n))
 
 pub node-is : (depth size : ℕ) (marks : List Att) (t : Tree) → filled marks t ≡ true → marksFit marks ≡ true → Follows depth size t
-  → Node depth size (nodeBytes marks t) (claims marks t)
+    → Node depth size (nodeBytes marks t) (claims marks t)
 unfolding marksBytes
 node-is depth size (a ∷ marks) t h g n = let p = and-parts _ _ g in marked depth size a marks t (p .0) (p .1) n
 node-is depth size [] end h g n = absurd (false≢true h)
@@ -189,21 +189,21 @@ fits depth size o m b r f =
     }
 
 below-is : (depth size : ℕ) (o : Op) (m : List Att) (b r : Tree) → filled m b ≡ true → Fits depth size o m b r → Follows (depth + 1) (resultOf o size) b
-  → Branch depth size (opBytes o ++ nodeBytes m b) (map (under o) (claims m b))
+    → Branch depth size (opBytes o ++ nodeBytes m b) (map (under o) (claims m b))
 below-is depth size o m b r s f n = branch-is depth size o (nodeBytes m b) (claims m b) (f .shallow) (f .argument) (f .result)
-  (node-is (depth + 1) (resultOf o size) m b s (f .marks) n)
+    (node-is (depth + 1) (resultOf o size) m b s (f .marks) n)
 
 pub follows : (depth size : ℕ) (t : Tree) → sorted t ≡ true → branchesFit depth size t ≡ true → Follows depth size t
 unfolding branchesBytes through
 follows depth size end s f = tt
 follows depth size (more o m b end) s f =
-  let w = parts o m b end s in let g = fits depth size o m b end f in
-  subst (λ z. Node depth size z (map (under o) (claims m b) ++ [])) (sym (append-nil (opBytes o ++ nodeBytes m b)))
+    let w = parts o m b end s in let g = fits depth size o m b end f in
+    subst (λ z. Node depth size z (map (under o) (claims m b) ++ [])) (sym (append-nil (opBytes o ++ nodeBytes m b)))
     (subst (λ z. Node depth size (opBytes o ++ nodeBytes m b) z) (sym (append-nil (map (under o) (claims m b))))
-      (last (below-is depth size o m b end (w .some) g (follows (depth + 1) (resultOf o size) b (w .below) (g .below)))))
+    (last (below-is depth size o m b end (w .some) g (follows (depth + 1) (resultOf o size) b (w .below) (g .below)))))
 follows depth size (more o m b (more p n c r)) s f =
-  let w = parts o m b (more p n c r) s in let g = fits depth size o m b (more p n c r) f in
-  another (below-is depth size o m b (more p n c r) (w .some) g (follows (depth + 1) (resultOf o size) b (w .below) (g .below)))
+    let w = parts o m b (more p n c r) s in let g = fits depth size o m b (more p n c r) f in
+    another (below-is depth size o m b (more p n c r) (w .some) g (follows (depth + 1) (resultOf o size) b (w .below) (g .below)))
     (follows depth size (more p n c r) (w .rest) (g .rest))
 
 -- ---- and read back

@@ -1,11 +1,11 @@
 -- The laws of union, and of the one tree of a set of claims.
-use mathlib.Core.Path.{_≡_, refl, sym, ap, subst, _∙_}
+use mathlib.Core.Path.{_≡_, refl}
 use mathlib.Core.Bool.{true, _&&_}
-use mathlib.Core.List.{List, []}
-use mathlib.Core.Logic.{_⊎_, inl, inr, ⊎-elim}
+use mathlib.Core.List.{List}
+use mathlib.Core.Logic.{inl, inr, ⊎-elim}
 use Rattle.std.proofs.shelf.Tests.{and-parts, and-from}
 use Rattle.format.specs.Nodes.{Claim}
-use Rattle.claim_trees.specs.Tree.{Held, blank, through, claims, In, Alike}
+use Rattle.claim_trees.specs.Tree.{Held, blank, through, claims, Alike}
 use Rattle.claim_trees.specs.Order.{ascends, sorted}
 use Rattle.claim_trees.specs.Union.{union}
 use Rattle.claim_trees.specs.Lawful.{claimFits, every}
@@ -58,9 +58,10 @@ associates : (x y z : Held) → Lawful x → Lawful y → Lawful z → union (un
 associates x y z h k l = lawful-same (union (union x y) z) (union x (union y z))
     (union-kept (union x y) z (union-kept x y h k) l) (union-kept x (union y z) h (union-kept y z k l)) (λ c.
     let u = union-in c (union x y) z in let v = union-in c x y in
-    let w = union-in c x (union y z) in let t = union-in c y z in
-    ( (λ i. w .1 (⊎-elim (λ j. ⊎-elim (λ e. inl e) (λ e. inr (t .1 (inl e))) (v .0 j)) (λ e. inr (t .1 (inr e))) (u .0 i)))
-    , (λ i. u .1 (⊎-elim (λ e. inl (v .1 (inl e))) (λ j. ⊎-elim (λ e. inl (v .1 (inr e))) (λ e. inr e) (t .0 j)) (w .0 i))) ))
+    let w = union-in c x (union y z) in let t = union-in c y z in (
+      (λ i. w .1 (⊎-elim (λ j. ⊎-elim (λ e. inl e) (λ e. inr (t .1 (inl e))) (v .0 j)) (λ e. inr (t .1 (inr e))) (u .0 i))),
+      (λ i. u .1 (⊎-elim (λ e. inl (v .1 (inl e))) (λ j. ⊎-elim (λ e. inl (v .1 (inr e))) (λ e. inr e) (t .0 j)) (w .0 i))),
+    ))
 
 idempotent : (x : Held) → Lawful x → union x x ≡ x
 idempotent x h = lawful-same (union x x) x (union-kept x x h h) h (λ c.
@@ -82,4 +83,11 @@ pub gathered-lawful : (cs : List Claim) → every claimFits cs ≡ true → Lawf
 gathered-lawful cs f = held-lawful (gathered cs) cs (gathered-holds cs) f
 
 pub unique-law : Unique-law
-unique-law = record { unique = lawful-same; gathers = gathered-holds; only = holds-one; lawfully = gathered-lawful; fits = λ file s n e. proper file s n e .fitting; digests = λ file s n e. proper file s n e .digest }
+unique-law = record {
+  unique = lawful-same;
+  gathers = gathered-holds;
+  only = holds-one;
+  lawfully = gathered-lawful;
+  fits = λ file s n e. proper file s n e .fitting;
+  digests = λ file s n e. proper file s n e .digest;
+}

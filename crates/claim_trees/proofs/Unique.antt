@@ -1,5 +1,5 @@
 -- Two sorted trees with the same claims are equal.
-use mathlib.Core.Path.{_≡_, refl, sym, ap, subst, _∙_}
+use mathlib.Core.Path.{_≡_, refl, sym, subst, _∙_}
 use mathlib.Core.List.{List, [], _∷_}
 use mathlib.Core.Logic.{_⊎_, inl, inr}
 use mathlib.Core.Bool.{true, true≢false}
@@ -10,7 +10,7 @@ use Rattle.format.specs.Operations.{Op}
 use Rattle.format.specs.Attestations.{Att}
 use Rattle.format.specs.FirstFault.{Iff}
 use Rattle.claim_trees.specs.Tree.{Tree, end, more, In, Through, Claims, filled}
-use Rattle.claim_trees.specs.Order.{opOrder, attOrder, ahead, rising, ascends, before, sorted, Strict-total}
+use Rattle.claim_trees.specs.Order.{ahead, rising, ascends, before, sorted, Strict-total}
 use Rattle.claim_trees.proofs.Orders.{ops, atts, less-trans, less-itself}
 use Rattle.claim_trees.proofs.Kept.{Parts, parts}
 
@@ -52,7 +52,8 @@ module _ {A : Type 0} {p : A → A → Ordering} (s : Strict-total p) where
       let e : x ≡ y = firsts x y (or-after x y ys (v .0) (v .1) (f x .0 (inl refl))) (or-after y x xs (u .0) (u .1) (f y .1 (inl refl))) in
       let rest : xs ≡ ys = list-unique xs ys (u .1) (v .1) (λ a. (
         (λ m. in-tail a x y ys e (after x xs (u .0) (u .1) a m) (f a .0 (inr m))),
-        (λ m. in-tail a y x xs (sym e) (after y ys (v .0) (v .1) a m) (f a .1 (inr m))))) in
+        (λ m. in-tail a y x xs (sym e) (after y ys (v .0) (v .1) a m) (f a .1 (inr m))),
+      )) in
       λ i. e i ∷ rest i
 
 -- ---- branches
@@ -101,16 +102,18 @@ tree-unique (more o m b r) (more p n c q) h k s =
     let x = witness m b (v .some) (v .below) in
     let y = witness n c (w .some) (w .below) in
     let e : o ≡ p = firsts ops o p
-      (or-beyond o p n c q (Claims (x .0) (x .1)) w (s o (x .0) (x .1) .0 (inl (refl, x .2))))
-      (or-beyond p o m b r (Claims (y .0) (y .1)) v (s p (y .0) (y .1) .1 (inl (refl, y .2)))) in
+    (or-beyond o p n c q (Claims (x .0) (x .1)) w (s o (x .0) (x .1) .0 (inl (refl, x .2))))
+    (or-beyond p o m b r (Claims (y .0) (y .1)) v (s p (y .0) (y .1) .1 (inl (refl, y .2)))) in
     let same : (os : List Op) (a : Att) → Iff (Claims os a m b) (Claims os a n c) = λ os a. (
       (λ d. through-first o p n c q (Claims os a) w e (s o os a .0 (inl (refl, d)))),
-      (λ d. through-first p o m b r (Claims os a) v (sym e) (s p os a .1 (inl (refl, d))))) in
+      (λ d. through-first p o m b r (Claims os a) v (sym e) (s p os a .1 (inl (refl, d)))),
+    ) in
     let marks : m ≡ n = list-unique atts m n (v .marks) (w .marks) (λ a. same [] a) in
     let below : b ≡ c = tree-unique b c (v .below) (w .below) (λ f os a. same (f ∷ os) a) in
     let rest : r ≡ q = tree-unique r q (v .rest) (w .rest) (λ f os a. (
       (λ d. through-rest f o p n c q (Claims os a) e (beyond o r (v .first) (v .rest) f (Claims os a) d) (s f os a .0 (inr d))),
-      (λ d. through-rest f p o m b r (Claims os a) (sym e) (beyond p q (w .first) (w .rest) f (Claims os a) d) (s f os a .1 (inr d))))) in
+      (λ d. through-rest f p o m b r (Claims os a) (sym e) (beyond p q (w .first) (w .rest) f (Claims os a) d) (s f os a .1 (inr d))),
+    )) in
     λ i. more (e i) (marks i) (below i) (rest i)
 
 pub unique : (m n : List Att) (t u : Tree) → ascends m ≡ true → ascends n ≡ true → sorted t ≡ true → sorted u ≡ true

@@ -1,9 +1,9 @@
 -- A written file is read back, and how long it is at most.
-use mathlib.Core.Path.{_≡_, refl, sym, ap, subst, _∙_}
+use mathlib.Core.Path.{_≡_, ap, subst}
 use mathlib.Core.Bool.{Bool, true, false, _&&_}
 use mathlib.Core.List.{List, [], _∷_, _++_}
 use mathlib.Core.Logic.{⊎-elim}
-use Prim.Native.Nat.{ℕ, suc, _+_, _*_, _/_, _^_, _≤_, _<_}
+use Prim.Native.Nat.{ℕ, suc, _+_, _*_, _/_, _≤_, _<_}
 use native.Mathlib.Omega.{arith}
 use lib.Dec.{leb}
 use lib.ListN.{length}
@@ -18,17 +18,17 @@ use Rattle.format.specs.Grammar.{Number, final, proof}
 use Rattle.format.proofs.Sound.{mark-long}
 use Rattle.format.proofs.Complete.{full-file}
 use Rattle.claim_trees.specs.Tree.{Tree, end, more, Held, claims, Alike, filled}
-use Rattle.claim_trees.specs.Order.{tagOf, argumentOf, sorted}
+use Rattle.claim_trees.specs.Order.{tagOf, argumentOf}
 use Rattle.claim_trees.specs.Bytes.{groups, shortest, block, opBytes, payloadOf, attBytes, ff, none, nil, marksBytes, branchesBytes, nodeBytes, fileBytes}
-use Rattle.claim_trees.specs.Lawful.{resultOf, argumentFits, attFits, claimFits, every, marksFit, branchesFit}
+use Rattle.claim_trees.specs.Lawful.{resultOf, argumentFits, attFits, marksFit, branchesFit}
 use Rattle.claim_trees.specs.Size.{Size, Sized, marksSize, branchesSize, sizeOf, within, operationLimit, attestationLimit, byteLimit}
 use Rattle.claim_trees.specs.Gathered.{gathered, written}
-use Rattle.claim_trees.specs.Laws.{claimsOf, Lawful, Number-law, Written-law, writtenLimit, Fitting}
+use Rattle.claim_trees.specs.Laws.{claimsOf, Lawful, Written-law, writtenLimit, Fitting}
 use Rattle.claim_trees.proofs.Shortest.{groups-one, groups-more}
-use Rattle.claim_trees.proofs.Spelling.{Fits, fits, eight, payload-long, node-fit, node-spelled}
-use Rattle.claim_trees.proofs.Gathering.{alike-same, alike-back, filled-from, gathered-holds}
+use Rattle.claim_trees.proofs.Spelling.{fits, eight, payload-long, node-fit, node-spelled}
+use Rattle.claim_trees.proofs.Gathering.{alike-same, filled-from, gathered-holds}
 use Rattle.claim_trees.proofs.Sizes.{one-size, held-sized}
-use Rattle.claim_trees.proofs.Unions.{Kept, kept, gathered-lawful}
+use Rattle.claim_trees.proofs.Unions.{kept, gathered-lawful}
 
 -- ---- lengths
 
@@ -38,7 +38,7 @@ unfolding shortest
 two n h = ⊎-elim
     (λ l. let e : length (groups 4 n) ≡ 1 = ap length (groups-one 4 n l) in omega arith)
     (λ m. let e : length (groups 4 n) ≡ suc (length (groups 3 (n / 128))) = ap length (groups-more 3 n m) in
-      let d : length (groups 3 (n / 128)) ≡ 1 = ap length (groups-one 3 (n / 128) (omega arith)) in omega arith)
+    let d : length (groups 3 (n / 128)) ≡ 1 = ap length (groups-one 3 (n / 128) (omega arith)) in omega arith)
     (cases-lt n 128)
 
 block-long : (bs : List ℕ) → length bs ≤ 8192 → length (block bs) ≤ 2 + length bs
@@ -142,10 +142,11 @@ pub reread : (digest : List ℕ) (cs : List Claim) (s : Size) → length digest 
 reread digest cs s l f z w =
     let x = gathered cs in
     let h = gathered-holds cs in
-    let e = one-size cs cs s (sizeOf (x .marks) (x .branches)) (alike-same cs) z (held-sized x cs h) in
-    ( claimsOf x
-    , file-returns digest x l (gathered-lawful cs (f .fit)) (filled-from (x .marks) (x .branches) cs (f .some) (h .claims)) (subst (λ s. within s ≡ true) e w)
-    , h .claims )
+    let e = one-size cs cs s (sizeOf (x .marks) (x .branches)) (alike-same cs) z (held-sized x cs h) in (
+      claimsOf x,
+      file-returns digest x l (gathered-lawful cs (f .fit)) (filled-from (x .marks) (x .branches) cs (f .some) (h .claims)) (subst (λ s. within s ≡ true) e w),
+      h .claims,
+    )
 
 pub written-law : Written-law
 written-law = record { returns = file-returns; short = file-short; reread = reread }

@@ -6,7 +6,7 @@ use Prim.Native.Nat.{ℕ}
 use Rattle.format.specs.Operations.{Op}
 use Rattle.format.specs.Attestations.{Att}
 use Rattle.format.specs.Nodes.{Claim}
-use Rattle.claim_trees.specs.Tree.{Tree, end, more, Held, held, blank, claims, Alike}
+use Rattle.claim_trees.specs.Tree.{end, more, Held, held, blank, claims, Alike}
 use Rattle.claim_trees.specs.Order.{ascends, sorted}
 use Rattle.claim_trees.specs.Union.{union}
 use Rattle.claim_trees.specs.Bytes.{fileBytes}

@@ -13,7 +13,6 @@ use Rattle.format.specs.Files.{Said, said, head, fileAt}
 use Rattle.format.specs.Grammar.{Groups}
 use Rattle.format.specs.FirstFault.{Iff}
 use Rattle.claim_trees.specs.Tree.{Held, claims, In, Alike, filled}
-use Rattle.claim_trees.specs.Order.{ascends, sorted}
 use Rattle.claim_trees.specs.Union.{union}
 use Rattle.claim_trees.specs.Bytes.{shortest, fileBytes}
 use Rattle.claim_trees.specs.Lawful.{claimFits, every, lawful}

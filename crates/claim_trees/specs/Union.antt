@@ -1,5 +1,4 @@
 -- The union of two sorted trees.
-use mathlib.Core.Path.{_≡_}
 use mathlib.Core.List.{List, [], _∷_}
 use mathlib.Core.Logic.{_⊎_}
 use Rattle.std.specs.declared.cmp.Ordering.{Ordering}
