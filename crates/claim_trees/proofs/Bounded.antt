@@ -20,7 +20,7 @@ use Rattle.claim_trees.specs.Gathered.{line, gathered}
 use Rattle.claim_trees.proofs.Shortest.{shortest-is}
 use Rattle.claim_trees.proofs.Gathering.{holds-branch, gathered-holds, holds-one, gathered-append}
 use Rattle.claim_trees.proofs.Fitting.{node-some, spelled-file}
-use Rattle.claim_trees.proofs.Sizes.{unite-most, unify-most, union-sized}
+use Rattle.claim_trees.proofs.Sizes.{union-most}
 
 pub record UpTo (s : Size) (n : ℕ) : Type 0 where
   pub operations : s .operations ≤ n
@@ -76,14 +76,12 @@ branch-up o cs k n l h u =
 both-up : (cs ds : List Claim) (m n k : ℕ) → UpTo (sizeOfHeld (gathered cs)) m → UpTo (sizeOfHeld (gathered ds)) n → m + n ≤ k → UpTo (sizeOfHeld (gathered (cs ++ ds))) k
 both-up cs ds m n k u v h =
     let x = gathered cs in let y = gathered ds in
-    let p = unite-most (x .marks) (y .marks) in let q = unify-most (x .branches) (y .branches) in
+    let p = union-most (x .marks) (y .marks) (x .branches) (y .branches) in
     let p1 = p .operations in let p2 = p .attestations in let p3 = p .bytes in
-    let q1 = q .operations in let q2 = q .attestations in let q3 = q .bytes in
     let u1 = u .operations in let u2 = u .attestations in let u3 = u .bytes in
     let v1 = v .operations in let v2 = v .attestations in let v3 = v .bytes in
     subst (λ z. UpTo (sizeOfHeld z) k) (gathered-append cs ds)
-    (subst (λ s. UpTo s k) (union-sized (x .marks) (y .marks) (x .branches) (y .branches))
-    (record { operations = omega arith; attestations = omega arith; bytes = omega arith }))
+    (record { operations = omega arith; attestations = omega arith; bytes = omega arith })
 
 up-weaker : (s : Size) (m n : ℕ) → m ≤ n → UpTo s m → UpTo s n
 up-weaker s m n h u =

@@ -13,9 +13,10 @@ use Rattle.format.specs.Operations.{Op}
 use Rattle.format.specs.Attestations.{Att}
 use Rattle.format.specs.Nodes.{Claim, claim, under}
 use Rattle.claim_trees.specs.Tree.{Tree, end, more, Held, held, here, through, claims, In, Alike, Apart, Through, Claims}
-use Rattle.claim_trees.specs.Order.{opOrder, attOrder, ascends, sorted}
+use Rattle.claim_trees.specs.Order.{argumentOf, opOrder, attOrder, ascends, sorted}
 use Rattle.claim_trees.specs.Union.{choose, place, unite, graft, unify, union}
-use Rattle.claim_trees.specs.Size.{Size, size, Begins, total, lastArgument, payloadBytes, Sized, plus, opSize, attSize, marksSize, branchesSize, sizeOf, placeSize, uniteSize, graftSize, unifySize, Size-law}
+use Rattle.claim_trees.specs.Bytes.{payloadOf}
+use Rattle.claim_trees.specs.Size.{Size, size, Lists, Begins, total, lastArgument, payloadBytes, Sized, payloads, opsIn, attsIn, bytesIn, sizeOf, uniteTotal, marksBoth, payloadsBoth, unifyTotal, opsBoth, attsBoth, bytesBoth, sizeOfBoth, Size-law}
 use Rattle.claim_trees.specs.Gathered.{gathered, Holds}
 use Rattle.claim_trees.proofs.Orders.{ops, less-itself}
 use Rattle.claim_trees.proofs.Listing.{in-left, in-right, in-either, listed}
@@ -23,7 +24,7 @@ use Rattle.claim_trees.proofs.Gathering.{in-map, map-in, alike-same, holds-uni
 use Rattle.claim_trees.proofs.Kept.{parts}
 use Rattle.claim_trees.proofs.Unique.{witness, beyond}
 use Rattle.claim_trees.proofs.Ascending.{claims-apart}
-use Rattle.claim_trees.proofs.Repeats.{total-append, lists-total, lists-length, apart-append, apart-map}
+use Rattle.claim_trees.proofs.Repeats.{total-append, total-one, lists-total, lists-length, apart-append, apart-map}
 
 -- ---- the beginnings of the paths of a tree
 
@@ -118,27 +119,19 @@ beginnings-apart (more o m b r) s =
 
 -- ---- counts
 
-marks-operations : (m : List Att) → marksSize m .operations ≡ 0
-marks-operations [] = refl
-marks-operations (a ∷ m) = let h = marks-operations m in omega arith
-
-count-operations : (t : Tree) → branchesSize t .operations ≡ length (beginnings t)
+count-operations : (t : Tree) → opsIn t ≡ length (beginnings t)
 unfolding beginnings
 count-operations end = refl
 count-operations (more o m b r) =
-    let x = marks-operations m in let y = count-operations b in let z = count-operations r in
+    let y = count-operations b in let z = count-operations r in
     let e = length-append (map (λ os. o ∷ os) (beginnings b)) (beginnings r) in
     let d = length-map (beginnings b) (λ os. o ∷ os) in omega arith
 
-marks-attestations : (m : List Att) → marksSize m .attestations ≡ length (map here m)
-marks-attestations [] = refl
-marks-attestations (a ∷ m) = let h = marks-attestations m in omega arith
-
-count-attestations : (t : Tree) → branchesSize t .attestations ≡ length (through t)
+count-attestations : (t : Tree) → attsIn t ≡ length (through t)
 unfolding through
 count-attestations end = refl
 count-attestations (more o m b r) =
-    let x = marks-attestations m in let y = count-attestations b in let z = count-attestations r in
+    let x = length-map m here in let y = count-attestations b in let z = count-attestations r in
     let e = length-append (map (under o) (claims m b)) (through r) in
     let d = length-map (claims m b) (under o) in
     let f = length-append (map here m) (through b) in omega arith
@@ -152,15 +145,15 @@ total-cons o [] h = refl
 total-cons o ([] ∷ xs) h = absurd (h (inl refl))
 total-cons o ((p ∷ ps) ∷ xs) h = let k = total-cons o xs (λ i. h (inr i)) in omega arith
 
-marks-bytes : (m : List Att) → marksSize m .bytes ≡ total payloadBytes (map here m)
-marks-bytes [] = refl
-marks-bytes (a ∷ m) = let h = marks-bytes m in omega arith
+count-payloads : (m : List Att) → payloads m ≡ total payloadBytes (map here m)
+count-payloads [] = refl
+count-payloads (a ∷ m) = let h = count-payloads m in omega arith
 
-count-bytes : (t : Tree) → branchesSize t .bytes ≡ total lastArgument (beginnings t) + total payloadBytes (through t)
+count-bytes : (t : Tree) → bytesIn t ≡ total lastArgument (beginnings t) + total payloadBytes (through t)
 unfolding beginnings through
 count-bytes end = refl
 count-bytes (more o m b r) =
-    let x = marks-bytes m in let y = count-bytes b in let z = count-bytes r in
+    let x = count-payloads m in let y = count-bytes b in let z = count-bytes r in
     let e = total-append lastArgument (map (λ os. o ∷ os) (beginnings b)) (beginnings r) in
     let d = total-cons o (beginnings b) (not-empty b) in
     let f = total-append payloadBytes (map (under o) (claims m b)) (through r) in
@@ -175,9 +168,9 @@ tree-sized m t h s = record {
   members = claims m t;
   lists-beginnings = record { members = λ b. (begins m t s b, begins-back m t b); apart = beginnings-apart t s };
   lists-members = record { members = alike-same (claims m t); apart = claims-apart m t h s };
-  operations = let x = marks-operations m in let y = count-operations t in omega arith;
-  attestations = let x = marks-attestations m in let y = count-attestations t in let e = length-append (map here m) (through t) in omega arith;
-  bytes = let x = marks-bytes m in let y = count-bytes t in let e = total-append payloadBytes (map here m) (through t) in omega arith;
+  operations = count-operations t;
+  attestations = let x = length-map m here in let y = count-attestations t in let e = length-append (map here m) (through t) in omega arith;
+  bytes = let x = count-payloads m in let y = count-bytes t in let e = total-append payloadBytes (map here m) (through t) in omega arith;
 }
 
 -- ---- one size for a set
@@ -200,44 +193,67 @@ one-size cs ds s t h x y =
 
 -- ---- a union walked
 
-module _ (x : Att) (xs : List Att) (h : (ys : List Att) → uniteSize xs ys ≡ marksSize (unite xs ys)) where
-  place-by : (y : Att) (ys : List Att) (r : Ordering) → placeSize x xs (uniteSize xs) ys ≡ marksSize (place x xs (unite xs) ys)
-      → choose r (plus (attSize x) (uniteSize xs (y ∷ ys))) (plus (attSize x) (uniteSize xs ys)) (plus (attSize y) (placeSize x xs (uniteSize xs) ys))
-      ≡ marksSize (choose r (x ∷ unite xs (y ∷ ys)) (x ∷ unite xs ys) (y ∷ place x xs (unite xs) ys))
-  place-by y ys Less e = ap (plus (attSize x)) (h (y ∷ ys))
-  place-by y ys Equal e = ap (plus (attSize x)) (h ys)
-  place-by y ys Greater e = ap (plus (attSize y)) e
+module _ (w : Att → ℕ) (x : Att) (xs : List Att) (h : (ys : List Att) → uniteTotal w xs ys ≡ total w (unite xs ys)) where
+  place-by : (y : Att) (ys : List Att) (r : Ordering) → uniteTotal w (x ∷ xs) ys ≡ total w (unite (x ∷ xs) ys)
+      → choose r (w x + uniteTotal w xs (y ∷ ys)) (w x + uniteTotal w xs ys) (w y + uniteTotal w (x ∷ xs) ys)
+      ≡ total w (choose r (x ∷ unite xs (y ∷ ys)) (x ∷ unite xs ys) (y ∷ unite (x ∷ xs) ys))
+  place-by y ys Less e = ap (λ n. w x + n) (h (y ∷ ys))
+  place-by y ys Equal e = ap (λ n. w x + n) (h ys)
+  place-by y ys Greater e = ap (λ n. w y + n) e
 
-  place-sized : (ys : List Att) → placeSize x xs (uniteSize xs) ys ≡ marksSize (place x xs (unite xs) ys)
-  place-sized [] = refl
-  place-sized (y ∷ ys) = place-by y ys (attOrder x y) (place-sized ys)
+  place-total : (ys : List Att) → uniteTotal w (x ∷ xs) ys ≡ total w (unite (x ∷ xs) ys)
+  place-total [] = refl
+  place-total (y ∷ ys) = place-by y ys (attOrder x y) (place-total ys)
 
-pub unite-sized : (xs ys : List Att) → uniteSize xs ys ≡ marksSize (unite xs ys)
-unite-sized [] ys = refl
-unite-sized (x ∷ xs) ys = place-sized x xs (unite-sized xs) ys
+unite-total : (w : Att → ℕ) (xs ys : List Att) → uniteTotal w xs ys ≡ total w (unite xs ys)
+unite-total w [] ys = refl
+unite-total w (x ∷ xs) ys = place-total w x xs (unite-total w xs) ys
 
-module _ (o : Op) (m : List Att) (b r : Tree) (f : (c : Tree) → unifySize b c ≡ branchesSize (unify b c)) (g : (s : Tree) → unifySize r s ≡ branchesSize (unify r s)) where
-  graft-by : (p : Op) (n : List Att) (c s : Tree) (k : Ordering)
-      → graftSize o m b r (unifySize b) (unifySize r) s ≡ branchesSize (graft o m b r (unify b) (unify r) s)
-      → choose k
-      (plus (opSize o) (plus (marksSize m) (plus (branchesSize b) (unifySize r (more p n c s)))))
-      (plus (opSize o) (plus (uniteSize m n) (plus (unifySize b c) (unifySize r s))))
-      (plus (opSize p) (plus (marksSize n) (plus (branchesSize c) (graftSize o m b r (unifySize b) (unifySize r) s))))
-      ≡ branchesSize (choose k (more o m b (unify r (more p n c s))) (more o (unite m n) (unify b c) (unify r s)) (more p n c (graft o m b r (unify b) (unify r) s)))
-  graft-by p n c s Less e = ap (λ z. plus (opSize o) (plus (marksSize m) (plus (branchesSize b) z))) (g (more p n c s))
-  graft-by p n c s Equal e = λ i. plus (opSize o) (plus (unite-sized m n i) (plus (f c i) (g s i)))
-  graft-by p n c s Greater e = ap (λ z. plus (opSize p) (plus (marksSize n) (plus (branchesSize c) z))) e
+total-payloads : (m : List Att) → total (λ a. length (payloadOf a)) m ≡ payloads m
+total-payloads [] = refl
+total-payloads (a ∷ m) = ap (λ n. length (payloadOf a) + n) (total-payloads m)
 
-  graft-sized : (t : Tree) → graftSize o m b r (unifySize b) (unifySize r) t ≡ branchesSize (graft o m b r (unify b) (unify r) t)
-  graft-sized end = refl
-  graft-sized (more p n c s) = graft-by p n c s (opOrder o p) (graft-sized s)
+pub marks-both : (m n : List Att) → marksBoth m n ≡ length (unite m n)
+marks-both m n = unite-total (λ _. 1) m n ∙ total-one (unite m n)
 
-pub unify-sized : (t u : Tree) → unifySize t u ≡ branchesSize (unify t u)
-unify-sized end u = refl
-unify-sized (more o m b r) u = graft-sized o m b r (unify-sized b) (unify-sized r) u
+pub payloads-both : (m n : List Att) → payloadsBoth m n ≡ payloads (unite m n)
+payloads-both m n = unite-total (λ a. length (payloadOf a)) m n ∙ total-payloads (unite m n)
 
-pub union-sized : (m n : List Att) (t u : Tree) → plus (uniteSize m n) (unifySize t u) ≡ sizeOf (unite m n) (unify t u)
-union-sized m n t u = λ i. plus (unite-sized m n i) (unify-sized t u i)
+-- a count of trees that adds what an operation and the attestations below it make
+module _ (tree : Tree → ℕ) (one : Op → List Att → ℕ) (both : Op → List Att → List Att → ℕ)
+    (adds : (o : Op) (m : List Att) (b r : Tree) → tree (more o m b r) ≡ one o m + (tree b + tree r))
+    (joins : (o : Op) (m n : List Att) → both o m n ≡ one o (unite m n)) where
+  abbrev walk : Tree → Tree → ℕ
+  walk t u = unifyTotal tree one both t u
+
+  module _ (o : Op) (m : List Att) (b r : Tree) (f : (c : Tree) → walk b c ≡ tree (unify b c)) (g : (s : Tree) → walk r s ≡ tree (unify r s)) where
+    graft-by : (p : Op) (n : List Att) (c s : Tree) (k : Ordering) → walk (more o m b r) s ≡ tree (unify (more o m b r) s)
+        → choose k (one o m + (tree b + walk r (more p n c s))) (both o m n + (walk b c + walk r s)) (one p n + (tree c + walk (more o m b r) s))
+        ≡ tree (choose k (more o m b (unify r (more p n c s))) (more o (unite m n) (unify b c) (unify r s)) (more p n c (unify (more o m b r) s)))
+    graft-by p n c s Less e = ap (λ z. one o m + (tree b + z)) (g (more p n c s)) ∙ sym (adds o m b (unify r (more p n c s)))
+    graft-by p n c s Equal e = (λ i. joins o m n i + (f c i + g s i)) ∙ sym (adds o (unite m n) (unify b c) (unify r s))
+    graft-by p n c s Greater e = ap (λ z. one p n + (tree c + z)) e ∙ sym (adds p n c (unify (more o m b r) s))
+
+    graft-total : (t : Tree) → walk (more o m b r) t ≡ tree (unify (more o m b r) t)
+    graft-total end = refl
+    graft-total (more p n c s) = graft-by p n c s (opOrder o p) (graft-total s)
+
+  unify-total : (t u : Tree) → walk t u ≡ tree (unify t u)
+  unify-total end u = refl
+  unify-total (more o m b r) u = graft-total o m b r (unify-total b) (unify-total r) u
+
+pub ops-both : (t u : Tree) → opsBoth t u ≡ opsIn (unify t u)
+ops-both = unify-total opsIn (λ _ _. 1) (λ _ _ _. 1) (λ o m b r. refl) (λ o m n. refl)
+
+pub atts-both : (t u : Tree) → attsBoth t u ≡ attsIn (unify t u)
+atts-both = unify-total attsIn (λ _ m. length m) (λ _ m n. marksBoth m n) (λ o m b r. refl) (λ o m n. marks-both m n)
+
+pub bytes-both : (t u : Tree) → bytesBoth t u ≡ bytesIn (unify t u)
+bytes-both = unify-total bytesIn (λ o m. length (argumentOf o) + payloads m) (λ o m n. length (argumentOf o) + payloadsBoth m n)
+    (λ o m b r. omega arith) (λ o m n. ap (λ z. length (argumentOf o) + z) (payloads-both m n))
+
+pub union-sized : (m n : List Att) (t u : Tree) → sizeOfBoth m t n u ≡ sizeOf (unite m n) (unify t u)
+union-sized m n t u = λ i. size (ops-both t u i) (marks-both m n i + atts-both t u i) (payloads-both m n i + bytes-both t u i)
 
 pub sized-alike : (cs ds : List Claim) (s : Size) → Alike cs ds → Sized cs s → Sized ds s
 sized-alike cs ds s h x =
@@ -263,7 +279,7 @@ held-sized x cs h = sized-alike (claims (x .marks) (x .branches)) cs (sizeOf (x 
     (tree-sized (x .marks) (x .branches) (h .marks) (h .branches))
 
 both-sized : (m n : List Att) (t u : Tree) → ascends m ≡ true → sorted t ≡ true → ascends n ≡ true → sorted u ≡ true
-    → Sized (claims m t ++ claims n u) (plus (uniteSize m n) (unifySize t u))
+    → Sized (claims m t ++ claims n u) (sizeOfBoth m t n u)
 both-sized m n t u a b c d = subst (Sized (claims m t ++ claims n u)) (sym (union-sized m n t u))
     (held-sized (union (held m t) (held n u)) (claims m t ++ claims n u)
     (holds-union (held m t) (held n u) (claims m t) (claims n u) (holds-own m t a b) (holds-own n u c d)))
@@ -278,50 +294,62 @@ pub record AtMost (s t u : Size) : Type 0 where
   pub attestations : s .attestations ≤ t .attestations + u .attestations
   pub bytes : s .bytes ≤ t .bytes + u .bytes
 
-most-place : (x : Att) (xs : List Att) → ((ys : List Att) → AtMost (uniteSize xs ys) (marksSize xs) (marksSize ys))
-    → (y : Att) (ys : List Att) (r : Ordering) → AtMost (uniteSize (x ∷ xs) ys) (marksSize (x ∷ xs)) (marksSize ys)
-    → AtMost (choose r (plus (attSize x) (uniteSize xs (y ∷ ys))) (plus (attSize x) (uniteSize xs ys)) (plus (attSize y) (uniteSize (x ∷ xs) ys)))
-    (marksSize (x ∷ xs)) (marksSize (y ∷ ys))
-most-place x xs h y ys Less ih = let k = h (y ∷ ys) in
-    let a = k .operations in let b = k .attestations in let c = k .bytes in
-    record { operations = omega arith; attestations = omega arith; bytes = omega arith }
-most-place x xs h y ys Equal ih = let k = h ys in
-    let a = k .operations in let b = k .attestations in let c = k .bytes in
-    record { operations = omega arith; attestations = omega arith; bytes = omega arith }
-most-place x xs h y ys Greater ih =
-    let a = ih .operations in let b = ih .attestations in let c = ih .bytes in
-    record { operations = omega arith; attestations = omega arith; bytes = omega arith }
+module _ (w : Att → ℕ) where
+  most-place : (x : Att) (xs : List Att) → ((ys : List Att) → total w (unite xs ys) ≤ total w xs + total w ys)
+      → (y : Att) (ys : List Att) (r : Ordering) → total w (unite (x ∷ xs) ys) ≤ total w (x ∷ xs) + total w ys
+      → total w (choose r (x ∷ unite xs (y ∷ ys)) (x ∷ unite xs ys) (y ∷ unite (x ∷ xs) ys)) ≤ total w (x ∷ xs) + total w (y ∷ ys)
+  most-place x xs h y ys Less ih = let k = h (y ∷ ys) in omega arith
+  most-place x xs h y ys Equal ih = let k = h ys in omega arith
+  most-place x xs h y ys Greater ih = omega arith
 
-pub unite-most : (xs ys : List Att) → AtMost (uniteSize xs ys) (marksSize xs) (marksSize ys)
-unite-most [] ys = record { operations = omega arith; attestations = omega arith; bytes = omega arith }
-unite-most (x ∷ xs) [] = record { operations = omega arith; attestations = omega arith; bytes = omega arith }
-unite-most (x ∷ xs) (y ∷ ys) = most-place x xs (unite-most xs) y ys (attOrder x y) (unite-most (x ∷ xs) ys)
+  unite-most : (xs ys : List Att) → total w (unite xs ys) ≤ total w xs + total w ys
+  unite-most [] ys = omega arith
+  unite-most (x ∷ xs) [] = omega arith
+  unite-most (x ∷ xs) (y ∷ ys) = most-place x xs (unite-most xs) y ys (attOrder x y) (unite-most (x ∷ xs) ys)
 
-most-graft : (o p : Op) (m n : List Att) (b c r s : Tree) (k : Ordering)
-    → AtMost (uniteSize m n) (marksSize m) (marksSize n)
-    → AtMost (unifySize r (more p n c s)) (branchesSize r) (branchesSize (more p n c s))
-    → AtMost (unifySize b c) (branchesSize b) (branchesSize c)
-    → AtMost (unifySize r s) (branchesSize r) (branchesSize s)
-    → AtMost (unifySize (more o m b r) s) (branchesSize (more o m b r)) (branchesSize s)
-    → AtMost (choose k
-    (plus (opSize o) (plus (marksSize m) (plus (branchesSize b) (unifySize r (more p n c s)))))
-    (plus (opSize o) (plus (uniteSize m n) (plus (unifySize b c) (unifySize r s))))
-    (plus (opSize p) (plus (marksSize n) (plus (branchesSize c) (unifySize (more o m b r) s)))))
-    (branchesSize (more o m b r)) (branchesSize (more p n c s))
-most-graft o p m n b c r s Less u v w x y =
-    let a1 = v .operations in let a2 = v .attestations in let a3 = v .bytes in
-    record { operations = omega arith; attestations = omega arith; bytes = omega arith }
-most-graft o p m n b c r s Equal u v w x y =
-    let a1 = u .operations in let a2 = u .attestations in let a3 = u .bytes in
-    let b1 = w .operations in let b2 = w .attestations in let b3 = w .bytes in
-    let c1 = x .operations in let c2 = x .attestations in let c3 = x .bytes in
-    record { operations = omega arith; attestations = omega arith; bytes = omega arith }
-most-graft o p m n b c r s Greater u v w x y =
-    let a1 = y .operations in let a2 = y .attestations in let a3 = y .bytes in
-    record { operations = omega arith; attestations = omega arith; bytes = omega arith }
+pub length-most : (m n : List Att) → length (unite m n) ≤ length m + length n
+length-most m n = let h = unite-most (λ _. 1) m n in let a = total-one (unite m n) in let b = total-one m in let c = total-one n in omega arith
 
-pub unify-most : (t u : Tree) → AtMost (unifySize t u) (branchesSize t) (branchesSize u)
-unify-most end u = record { operations = omega arith; attestations = omega arith; bytes = omega arith }
-unify-most (more o m b r) end = record { operations = omega arith; attestations = omega arith; bytes = omega arith }
-unify-most (more o m b r) (more p n c s) =
-    most-graft o p m n b c r s (opOrder o p) (unite-most m n) (unify-most r (more p n c s)) (unify-most b c) (unify-most r s) (unify-most (more o m b r) s)
+pub payloads-most : (m n : List Att) → payloads (unite m n) ≤ payloads m + payloads n
+payloads-most m n =
+    let h = unite-most (λ a. length (payloadOf a)) m n in
+    let a = total-payloads (unite m n) in let b = total-payloads m in let c = total-payloads n in omega arith
+
+-- a count of trees in which an operation that both have counts no more than in both
+module _ (tree : Tree → ℕ) (one : Op → List Att → ℕ) (adds : (o : Op) (m : List Att) (b r : Tree) → tree (more o m b r) ≡ one o m + (tree b + tree r))
+    (less : (o : Op) (m n : List Att) → one o (unite m n) ≤ one o m + one o n) where
+  most-graft : (o p : Op) (m n : List Att) (b c r s : Tree) (k : Ordering) → opOrder o p ≡ k
+      → tree (unify r (more p n c s)) ≤ tree r + tree (more p n c s)
+      → tree (unify b c) ≤ tree b + tree c
+      → tree (unify r s) ≤ tree r + tree s
+      → tree (unify (more o m b r) s) ≤ tree (more o m b r) + tree s
+      → tree (choose k (more o m b (unify r (more p n c s))) (more o (unite m n) (unify b c) (unify r s)) (more p n c (unify (more o m b r) s)))
+      ≤ tree (more o m b r) + tree (more p n c s)
+  most-graft o p m n b c r s Less e u v w x =
+      let a = adds o m b (unify r (more p n c s)) in let d = adds o m b r in omega arith
+  most-graft o p m n b c r s Equal e u v w x =
+      let a = adds o (unite m n) (unify b c) (unify r s) in let d = adds o m b r in let f = adds p n c s in
+      let g = less o m n in let h : one o n ≡ one p n = ap (λ q. one q n) (ops .same o p e) in omega arith
+  most-graft o p m n b c r s Greater e u v w x =
+      let a = adds p n c (unify (more o m b r) s) in let d = adds p n c s in omega arith
+
+  unify-most : (t u : Tree) → tree (unify t u) ≤ tree t + tree u
+  unify-most end u = omega arith
+  unify-most (more o m b r) end = omega arith
+  unify-most (more o m b r) (more p n c s) =
+      most-graft o p m n b c r s (opOrder o p) refl (unify-most r (more p n c s)) (unify-most b c) (unify-most r s) (unify-most (more o m b r) s)
+
+pub ops-most : (t u : Tree) → opsIn (unify t u) ≤ opsIn t + opsIn u
+ops-most = unify-most opsIn (λ _ _. 1) (λ o m b r. refl) (λ o m n. omega arith)
+
+pub atts-most : (t u : Tree) → attsIn (unify t u) ≤ attsIn t + attsIn u
+atts-most = unify-most attsIn (λ _ m. length m) (λ o m b r. refl) (λ o m n. length-most m n)
+
+pub bytes-most : (t u : Tree) → bytesIn (unify t u) ≤ bytesIn t + bytesIn u
+bytes-most = unify-most bytesIn (λ o m. length (argumentOf o) + payloads m) (λ o m b r. omega arith) (λ o m n. let h = payloads-most m n in omega arith)
+
+pub union-most : (m n : List Att) (t u : Tree) → AtMost (sizeOf (unite m n) (unify t u)) (sizeOf m t) (sizeOf n u)
+union-most m n t u =
+    let a = length-most m n in let b = payloads-most m n in
+    let c = ops-most t u in let d = atts-most t u in let e = bytes-most t u in
+    record { operations = omega arith; attestations = omega arith; bytes = omega arith }

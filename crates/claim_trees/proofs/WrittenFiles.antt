@@ -21,7 +21,7 @@ use Rattle.claim_trees.specs.Tree.{Tree, end, more, Held, claims, Alike, fille
 use Rattle.claim_trees.specs.Order.{tagOf, argumentOf}
 use Rattle.claim_trees.specs.Bytes.{groups, shortest, block, opBytes, payloadOf, attBytes, ff, none, nil, marksBytes, branchesBytes, nodeBytes, fileBytes}
 use Rattle.claim_trees.specs.Lawful.{resultOf, argumentFits, attFits, marksFit, branchesFit}
-use Rattle.claim_trees.specs.Size.{Size, Sized, marksSize, branchesSize, sizeOf, within, operationLimit, attestationLimit, byteLimit}
+use Rattle.claim_trees.specs.Size.{Size, Sized, payloads, opsIn, attsIn, bytesIn, sizeOf, within, operationLimit, attestationLimit, byteLimit}
 use Rattle.claim_trees.specs.Gathered.{gathered, written}
 use Rattle.claim_trees.specs.Laws.{claimsOf, Lawful, Written-law, writtenLimit, Fitting}
 use Rattle.claim_trees.proofs.Shortest.{groups-one, groups-more}
@@ -63,7 +63,7 @@ op-long reverse f = omega arith
 op-long hexlify f = omega arith
 
 marks-long : (marks : List Att) (alone : Bool) → marksFit marks ≡ true
-    → length (marksBytes marks alone) ≤ 4 * marksSize marks .operations + (12 * marksSize marks .attestations + marksSize marks .bytes)
+    → length (marksBytes marks alone) ≤ 12 * length marks + payloads marks
 unfolding marksBytes
 marks-long [] alone f = omega arith
 marks-long (a ∷ marks) alone f =
@@ -74,7 +74,7 @@ marks-long (a ∷ marks) alone f =
     omega arith
 
 branches-long : (depth size : ℕ) (t : Tree) → branchesFit depth size t ≡ true
-    → length (branchesBytes t) ≤ 4 * branchesSize t .operations + (12 * branchesSize t .attestations + branchesSize t .bytes)
+    → length (branchesBytes t) ≤ 4 * opsIn t + (12 * attsIn t + bytesIn t)
 unfolding branchesBytes
 branches-long depth size end f = omega arith
 branches-long depth size (more o m b r) f =

@@ -73,52 +73,70 @@ pub record Sized (cs : List Claim) (s : Size) : Type 0 where
 
 -- ---- the size of a tree
 
-abbrev pub empty : Size
-empty = size 0 0 0
+-- how many bytes the payloads have in their shortest form
+abbrev pub payloads : List Att → ℕ
+payloads [] = 0
+payloads (a ∷ marks) = length (payloadOf a) + payloads marks
 
-abbrev pub plus : Size → Size → Size
-plus s t = size (s .operations + t .operations) (s .attestations + t .attestations) (s .bytes + t .bytes)
+abbrev pub opsIn : Tree → ℕ
+opsIn end = 0
+opsIn (more o marks below rest) = 1 + (opsIn below + opsIn rest)
 
--- an operation, an attestation
-abbrev pub opSize : Op → Size
-opSize o = size 1 0 (length (argumentOf o))
+abbrev pub attsIn : Tree → ℕ
+attsIn end = 0
+attsIn (more o marks below rest) = length marks + (attsIn below + attsIn rest)
 
-abbrev pub attSize : Att → Size
-attSize a = size 0 1 (length (payloadOf a))
-
-abbrev pub marksSize : List Att → Size
-marksSize [] = empty
-marksSize (a ∷ marks) = plus (attSize a) (marksSize marks)
-
-abbrev pub branchesSize : Tree → Size
-branchesSize end = empty
-branchesSize (more o marks below rest) = plus (opSize o) (plus (marksSize marks) (plus (branchesSize below) (branchesSize rest)))
+abbrev pub bytesIn : Tree → ℕ
+bytesIn end = 0
+bytesIn (more o marks below rest) = length (argumentOf o) + (payloads marks + (bytesIn below + bytesIn rest))
 
 abbrev pub sizeOf : List Att → Tree → Size
-sizeOf marks branches = plus (marksSize marks) (branchesSize branches)
+sizeOf marks branches = size (opsIn branches) (length marks + attsIn branches) (payloads marks + bytesIn branches)
 
 -- ---- the size of a union, both walked together and nothing built
 
-abbrev pub placeSize : Att → List Att → (List Att → Size) → List Att → Size
-placeSize x xs f [] = marksSize (x ∷ xs)
-placeSize x xs f (y ∷ ys) =
-    choose (attOrder x y) (plus (attSize x) (f (y ∷ ys))) (plus (attSize x) (f ys)) (plus (attSize y) (placeSize x xs f ys))
+-- attestations, each with its weight
+abbrev pub placeTotal : (Att → ℕ) → Att → List Att → (List Att → ℕ) → List Att → ℕ
+placeTotal w x xs f [] = w x + total w xs
+placeTotal w x xs f (y ∷ ys) = choose (attOrder x y) (w x + f (y ∷ ys)) (w x + f ys) (w y + placeTotal w x xs f ys)
 
-abbrev pub uniteSize : List Att → List Att → Size
-uniteSize [] ys = marksSize ys
-uniteSize (x ∷ xs) ys = placeSize x xs (uniteSize xs) ys
+abbrev pub uniteTotal : (Att → ℕ) → List Att → List Att → ℕ
+uniteTotal w [] ys = total w ys
+uniteTotal w (x ∷ xs) ys = placeTotal w x xs (uniteTotal w xs) ys
 
-abbrev pub graftSize : Op → List Att → Tree → Tree → (Tree → Size) → (Tree → Size) → Tree → Size
-graftSize o marks below rest f g end = branchesSize (more o marks below rest)
-graftSize o marks below rest f g (more p others low far) =
+abbrev pub marksBoth : List Att → List Att → ℕ
+marksBoth m n = uniteTotal (λ _. 1) m n
+
+abbrev pub payloadsBoth : List Att → List Att → ℕ
+payloadsBoth m n = uniteTotal (λ a. length (payloadOf a)) m n
+
+-- branches: tree counts those that one has alone, one an operation with the attestations below it, both one that both have
+abbrev pub graftTotal : (Tree → ℕ) → (Op → List Att → ℕ) → (Op → List Att → List Att → ℕ)
+    → Op → List Att → Tree → Tree → (Tree → ℕ) → (Tree → ℕ) → Tree → ℕ
+graftTotal tree one both o marks below rest f g end = tree (more o marks below rest)
+graftTotal tree one both o marks below rest f g (more p others low far) =
     choose (opOrder o p)
-    (plus (opSize o) (plus (marksSize marks) (plus (branchesSize below) (g (more p others low far)))))
-    (plus (opSize o) (plus (uniteSize marks others) (plus (f low) (g far))))
-    (plus (opSize p) (plus (marksSize others) (plus (branchesSize low) (graftSize o marks below rest f g far))))
+    (one o marks + (tree below + g (more p others low far)))
+    (both o marks others + (f low + g far))
+    (one p others + (tree low + graftTotal tree one both o marks below rest f g far))
 
-abbrev pub unifySize : Tree → Tree → Size
-unifySize end t = branchesSize t
-unifySize (more o marks below rest) t = graftSize o marks below rest (unifySize below) (unifySize rest) t
+abbrev pub unifyTotal : (Tree → ℕ) → (Op → List Att → ℕ) → (Op → List Att → List Att → ℕ) → Tree → Tree → ℕ
+unifyTotal tree one both end t = tree t
+unifyTotal tree one both (more o marks below rest) t =
+    graftTotal tree one both o marks below rest (unifyTotal tree one both below) (unifyTotal tree one both rest) t
+
+abbrev pub opsBoth : Tree → Tree → ℕ
+opsBoth t u = unifyTotal opsIn (λ _ _. 1) (λ _ _ _. 1) t u
+
+abbrev pub attsBoth : Tree → Tree → ℕ
+attsBoth t u = unifyTotal attsIn (λ _ m. length m) (λ _ m n. marksBoth m n) t u
+
+abbrev pub bytesBoth : Tree → Tree → ℕ
+bytesBoth t u =
+    unifyTotal bytesIn (λ o m. length (argumentOf o) + payloads m) (λ o m n. length (argumentOf o) + payloadsBoth m n) t u
+
+abbrev pub sizeOfBoth : List Att → Tree → List Att → Tree → Size
+sizeOfBoth m t n u = size (opsBoth t u) (marksBoth m n + attsBoth t u) (payloadsBoth m n + bytesBoth t u)
 
 -- ---- laws
 
@@ -131,6 +149,6 @@ pub record Size-law : Type 0 where
   pub gathers : (cs : List Claim) → Sized cs (sizeOf (gathered cs .marks) (gathered cs .branches))
   -- two sorted trees walked together give the size of both sets of claims
   pub both : (m n : List Att) (t u : Tree) → ascends m ≡ true → sorted t ≡ true → ascends n ≡ true → sorted u ≡ true
-      → Sized (claims m t ++ claims n u) (plus (uniteSize m n) (unifySize t u))
+      → Sized (claims m t ++ claims n u) (sizeOfBoth m t n u)
   -- which is that of their union
-  pub union : (m n : List Att) (t u : Tree) → plus (uniteSize m n) (unifySize t u) ≡ sizeOf (unite m n) (unify t u)
+  pub union : (m n : List Att) (t u : Tree) → sizeOfBoth m t n u ≡ sizeOf (unite m n) (unify t u)
