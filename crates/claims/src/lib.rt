@@ -1,0 +1,2 @@
+// Sets of claims held as sorted trees.
+pub mod tree;
