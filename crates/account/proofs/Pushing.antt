@@ -10,7 +10,7 @@ use Rattle.std.proofs.shelf.Lists.{at-drop-more, at-drop-all, append-nil}
 use Rattle.account.specs.Words.{hexOf}
 
 pub hex-more : (bs : List ℕ) (i : ℕ) → i < length bs
-  → hexOf (drop i bs) ≡ digitChar (getD bs i 0 / 16) ∷ digitChar (getD bs i 0 % 16) ∷ hexOf (drop (i + 1) bs)
+    → hexOf (drop i bs) ≡ digitChar (getD bs i 0 / 16) ∷ digitChar (getD bs i 0 % 16) ∷ hexOf (drop (i + 1) bs)
 unfolding hexOf
 hex-more bs i l = at-drop-more hexOf bs i 0 l
 

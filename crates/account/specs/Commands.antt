@@ -25,9 +25,9 @@ asked Unknown = unknown
 -- of count words, the first three
 abbrev pub askedBy : ℕ → List ℕ → List ℕ → List ℕ → Asked
 askedBy count first second third =
-  cond (eqb count 0) usage
-  (cond (eqb count 1 && same first (codes "help")) usage
-  (cond (eqb count 1 && same first (codes "version")) version
-  (cond (eqb count 2 && same first (codes "show")) (shown second)
-  (cond (eqb count 3 && (same first (codes "show") && same second (codes "--messages"))) (messages third)
-  unknown))))
+    cond (eqb count 0) usage
+    (cond (eqb count 1 && same first (codes "help")) usage
+    (cond (eqb count 1 && same first (codes "version")) version
+    (cond (eqb count 2 && same first (codes "show")) (shown second)
+    (cond (eqb count 3 && (same first (codes "show") && same second (codes "--messages"))) (messages third)
+    unknown))))

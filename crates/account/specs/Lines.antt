@@ -33,7 +33,7 @@ part size first = codes " (" ++ (decimal size ++ (codes " at " ++ (decimal first
 -- an argument is shown where there is one
 abbrev pub operationLine : ℕ → Kind → List ℕ → ℕ → ℕ → List ℕ
 operationLine depth kind argument offset first =
-  cond (eqb (length argument) 0)
+    cond (eqb (length argument) 0)
     (indent depth ++ (decimal offset ++ (codes " " ++ kindWord kind)))
     (indent depth ++ (decimal offset ++ (codes " " ++ (kindWord kind ++ (codes " [" ++ (hexOf argument ++ (codes "]" ++ part (length argument) first)))))))
 
@@ -46,7 +46,7 @@ contentText (unknown tag payload) = codes "unknown " ++ (hexOf tag ++ (codes " [
 abbrev pub itemLine : ℕ → Piece → List ℕ
 itemLine depth (operation kind argument offset first) = operationLine depth kind argument offset first
 itemLine depth (attestation a payload offset first) =
-  indent depth ++ (decimal offset ++ (codes " " ++ (contentText a ++ part (length payload) first)))
+    indent depth ++ (decimal offset ++ (codes " " ++ (contentText a ++ part (length payload) first)))
 
 abbrev pub digestLine : Head → List ℕ
 digestLine h = codes "digest " ++ (hexOf (h .digest) ++ (codes " (tag at " ++ (decimal (h .hash) ++ codes ")")))
@@ -61,4 +61,4 @@ rootLine depth message = indent depth ++ (codes "  root " ++ hexOf (reverse mess
 
 abbrev pub countsLine : Counts → List ℕ
 countsLine c =
-  codes "claims: pending " ++ (decimal (c .pending) ++ (codes ", bitcoin " ++ (decimal (c .bitcoin) ++ (codes ", unknown " ++ decimal (c .unknown)))))
+    codes "claims: pending " ++ (decimal (c .pending) ++ (codes ", bitcoin " ++ (decimal (c .bitcoin) ++ (codes ", unknown " ++ decimal (c .unknown)))))

@@ -32,7 +32,7 @@ faultLine number words = codes "fault " ++ (decimal number ++ (codes ": " ++ wor
 -- up to eight bytes before an offset, and up to eight from it on
 abbrev pub aroundLine : List ℕ → ℕ → List ℕ
 aroundLine file offset =
-  let at : ℕ = min offset (length file) in
-  let from : ℕ = at - 8 in
-  let end : ℕ = min (at + 8) (length file) in
-  codes "bytes from " ++ (decimal from ++ (codes ": " ++ (hexOf (take (at - from) (drop from file)) ++ (codes " | " ++ hexOf (take (end - at) (drop at file))))))
+    let at : ℕ = min offset (length file) in
+    let from : ℕ = at - 8 in
+    let end : ℕ = min (at + 8) (length file) in
+    codes "bytes from " ++ (decimal from ++ (codes ": " ++ (hexOf (take (at - from) (drop from file)) ++ (codes " | " ++ hexOf (take (end - at) (drop at file))))))

@@ -33,7 +33,10 @@ pub fn parse<'a>(count: usize, first: &str, second: &'a str, third: &'a str) -> 
     if count == 2 && same(word, "show".as_bytes()) {
         return Command::Show(second);
     }
-    if count == 3 && same(word, "show".as_bytes()) && same(second.as_bytes(), "--messages".as_bytes()) {
+    if count == 3
+        && same(word, "show".as_bytes())
+        && same(second.as_bytes(), "--messages".as_bytes())
+    {
         return Command::Messages(third);
     }
     Command::Unknown

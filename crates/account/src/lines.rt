@@ -43,7 +43,14 @@ fn part(heap: Global, size: usize, first: usize) -> Result<String, AllocError>
     format!(heap, " ({size} at {first})")
 }
 
-fn operation_line(heap: Global, depth: u8, kind: Kind, argument: &[u8], offset: usize, first: usize) -> Result<String, AllocError>
+fn operation_line(
+    heap: Global,
+    depth: u8,
+    kind: Kind,
+    argument: &[u8],
+    offset: usize,
+    first: usize,
+) -> Result<String, AllocError>
     ensures { λ r. ⌜ made r (λ s. string-bytes s ≡ operationLine depth kind (now (argument .entry)) offset first) ⌝ }
 {
     let indent = spaces(heap, 2 * depth as usize)?;
@@ -73,7 +80,14 @@ fn content_text(heap: Global, content: &Content) -> Result<String, AllocError>
     }
 }
 
-fn attestation_line(heap: Global, depth: u8, content: &Content, size: usize, offset: usize, first: usize) -> Result<String, AllocError>
+fn attestation_line(
+    heap: Global,
+    depth: u8,
+    content: &Content,
+    size: usize,
+    offset: usize,
+    first: usize,
+) -> Result<String, AllocError>
     ensures { λ r. ⌜ made r (λ s. string-bytes s ≡ indent depth ++ (decimal offset ++ (codes " " ++ (contentText (attested (now (content .entry))) ++ partText size first)))) ⌝ }
 {
     let indent = spaces(heap, 2 * depth as usize)?;
@@ -87,8 +101,18 @@ pub fn item_line(heap: Global, step: &Step) -> Result<String, AllocError>
     ensures { λ r. ⌜ made r (λ s. string-bytes s ≡ itemLine (now (step .entry) .depth) (piece (now (step .entry) .item))) ⌝ }
 {
     match step.item {
-        Item::Operation { kind, argument, offset, first } => operation_line(heap, step.depth, kind, argument, offset, first),
-        Item::Attestation { content, payload, offset, first } => attestation_line(heap, step.depth, &content, payload.len(), offset, first),
+        Item::Operation {
+            kind,
+            argument,
+            offset,
+            first,
+        } => operation_line(heap, step.depth, kind, argument, offset, first),
+        Item::Attestation {
+            content,
+            payload,
+            offset,
+            first,
+        } => attestation_line(heap, step.depth, &content, payload.len(), offset, first),
     }
 }
 
@@ -138,5 +162,8 @@ pub fn counts_line(heap: Global, counts: &Counts) -> Result<String, AllocError>
     let pending = counts.pending;
     let bitcoin = counts.bitcoin;
     let unknown = counts.unknown;
-    format!(heap, "claims: pending {pending}, bitcoin {bitcoin}, unknown {unknown}")
+    format!(
+        heap,
+        "claims: pending {pending}, bitcoin {bitcoin}, unknown {unknown}"
+    )
 }

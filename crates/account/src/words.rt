@@ -19,7 +19,11 @@ fn digit(n: u8) -> char
     ensures ascii { λ r. ⌜ r < 128 ⌝ }
     ensures value { λ r. ⌜ r ≡ digitChar n ⌝ }
 {
-    if n < 10 { (b'0' + n) as char } else { (b'a' + (n - 10)) as char }
+    if n < 10 {
+        (b'0' + n) as char
+    } else {
+        (b'a' + (n - 10)) as char
+    }
 }
 
 fn push_hex(out: &mut String, bytes: &[u8]) -> Result<(), AllocError>

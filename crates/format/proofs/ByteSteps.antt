@@ -22,7 +22,7 @@ unfolding addressBytes
 address-all bs i l = at-drop-all addressBytes bs i l
 
 pub same-more : (xs ys : List ℕ) (i : ℕ) → i < length xs → i < length ys
-  → same (drop i xs) (drop i ys) ≡ (eqb (getD xs i 0) (getD ys i 0) && same (drop (i + 1) xs) (drop (i + 1) ys))
+    → same (drop i xs) (drop i ys) ≡ (eqb (getD xs i 0) (getD ys i 0) && same (drop (i + 1) xs) (drop (i + 1) ys))
 unfolding same
 same-more xs ys i l m = at-drop-more (λ z. same z (drop i ys)) xs i 0 l ∙ at-drop-more (λ z. same (getD xs i 0 ∷ drop (i + 1) xs) z) ys i 0 m
 
@@ -42,7 +42,7 @@ same-lengths (x ∷ xs) (y ∷ ys) h = ap (λ z. eqb x y && z) (same-lengths xs 
     and-false false = refl
 
 pub mark-more : (ms file : List ℕ) (at i : ℕ) → i < length ms
-  → markAt (drop i ms) file at ≡ then (byteAt file at) (λ b next. cond (eqb b (getD ms i 0)) (markAt (drop (i + 1) ms) file next) (fault 3 at))
+    → markAt (drop i ms) file at ≡ then (byteAt file at) (λ b next. cond (eqb b (getD ms i 0)) (markAt (drop (i + 1) ms) file next) (fault 3 at))
 unfolding markAt
 mark-more ms file at i l = at-drop-more (λ z. markAt z file at) ms i 0 l
 

@@ -31,19 +31,19 @@ stepCounts (s ∷ ss) = plus (adds (s .item)) (stepCounts ss)
 
 plus-assoc : (c d e : Counts) → plus (plus c d) e ≡ plus c (plus d e)
 plus-assoc c d e =
-  ap (λ z. counts z ((c .bitcoin + d .bitcoin) + e .bitcoin) ((c .unknown + d .unknown) + e .unknown)) (add-assoc (c .pending) (d .pending) (e .pending))
-  ∙ (ap (λ z. counts (c .pending + (d .pending + e .pending)) z ((c .unknown + d .unknown) + e .unknown)) (add-assoc (c .bitcoin) (d .bitcoin) (e .bitcoin))
-  ∙ ap (λ z. counts (c .pending + (d .pending + e .pending)) (c .bitcoin + (d .bitcoin + e .bitcoin)) z) (add-assoc (c .unknown) (d .unknown) (e .unknown)))
+    ap (λ z. counts z ((c .bitcoin + d .bitcoin) + e .bitcoin) ((c .unknown + d .unknown) + e .unknown)) (add-assoc (c .pending) (d .pending) (e .pending))
+    ∙ (ap (λ z. counts (c .pending + (d .pending + e .pending)) z ((c .unknown + d .unknown) + e .unknown)) (add-assoc (c .bitcoin) (d .bitcoin) (e .bitcoin))
+    ∙ ap (λ z. counts (c .pending + (d .pending + e .pending)) (c .bitcoin + (d .bitcoin + e .bitcoin)) z) (add-assoc (c .unknown) (d .unknown) (e .unknown)))
 
 plus-none : (c : Counts) → plus c (counts 0 0 0) ≡ c
 plus-none c =
-  ap (λ z. counts z (c .bitcoin + 0) (c .unknown + 0)) (add-zero (c .pending))
-  ∙ (ap (λ z. counts (c .pending) z (c .unknown + 0)) (add-zero (c .bitcoin)) ∙ ap (λ z. counts (c .pending) (c .bitcoin) z) (add-zero (c .unknown)))
+    ap (λ z. counts z (c .bitcoin + 0) (c .unknown + 0)) (add-zero (c .pending))
+    ∙ (ap (λ z. counts (c .pending) z (c .unknown + 0)) (add-zero (c .bitcoin)) ∙ ap (λ z. counts (c .pending) (c .bitcoin) z) (add-zero (c .unknown)))
 
 none-plus : (c : Counts) → plus (counts 0 0 0) c ≡ c
 none-plus c =
-  ap (λ z. counts z (0 + c .bitcoin) (0 + c .unknown)) (zero-add (c .pending))
-  ∙ (ap (λ z. counts (c .pending) z (0 + c .unknown)) (zero-add (c .bitcoin)) ∙ ap (λ z. counts (c .pending) (c .bitcoin) z) (zero-add (c .unknown)))
+    ap (λ z. counts z (0 + c .bitcoin) (0 + c .unknown)) (zero-add (c .pending))
+    ∙ (ap (λ z. counts (c .pending) z (0 + c .unknown)) (zero-add (c .bitcoin)) ∙ ap (λ z. counts (c .pending) (c .bitcoin) z) (zero-add (c .unknown)))
 
 -- whatever path the items lie below
 claims-counted : (path : List Op) (ss : List Step) → countsOf (claimsOf path ss) ≡ stepCounts ss
@@ -52,7 +52,7 @@ claims-counted path [] = refl
 claims-counted path (s ∷ ss) = by-item (s .item) (s .depth) (λ ops. claims-counted ops ss)
   where
     by-item : (p : Piece) (d : ℕ) → ((ops : List Op) → countsOf (claimsOf ops ss) ≡ stepCounts ss)
-      → countsOf (claimsOf path (record { depth = d; item = p } ∷ ss)) ≡ plus (adds p) (stepCounts ss)
+        → countsOf (claimsOf path (record { depth = d; item = p } ∷ ss)) ≡ plus (adds p) (stepCounts ss)
     by-item (operation kind argument offset first) d h = h _ ∙ sym (none-plus (stepCounts ss))
     by-item (attestation a payload offset first) d h = ap (plus (one a)) (h path)
 
@@ -66,14 +66,14 @@ countsOn c file None next = got c next
 countsOn c file (Some h) next = countsAt (plus c (adds (h .step .item))) (h .place) file next
 
 count-one : (c : Counts) (s : Step) (o : Outcome (List Step))
-  → then (then o (λ ss last. got (s ∷ ss) last)) (λ ss last. got (plus c (stepCounts ss)) last)
+    → then (then o (λ ss last. got (s ∷ ss) last)) (λ ss last. got (plus c (stepCounts ss)) last)
     ≡ then o (λ ss last. got (plus (plus c (adds (s .item))) (stepCounts ss)) last)
 unfolding stepCounts
 count-one c s (got ss n) = ap (λ z. got z n) (sym (plus-assoc c (adds (s .item)) (stepCounts ss)))
 count-one c s (fault n o) = refl
 
 count-end : (c : Counts) (at : ℕ) (b : Bool)
-  → then (cond b (got [] at) (fault 12 at)) (λ ss last. got (plus c (stepCounts ss)) last) ≡ then (cond b (got None at) (fault 12 at)) (countsOn c [])
+    → then (cond b (got [] at) (fault 12 at)) (λ ss last. got (plus c (stepCounts ss)) last) ≡ then (cond b (got None at) (fault 12 at)) (countsOn c [])
 unfolding stepCounts
 count-end c at true = ap (λ z. got z at) (plus-none c)
 count-end c at false = refl
@@ -85,30 +85,30 @@ count-end-on c file at false = refl
 pub count-next : (c : Counts) (place : Place) (file : List ℕ) (at : ℕ) → countsAt c place file at ≡ then (nextAt place file at) (countsOn c file)
 unfolding countsAt
 count-next c behind file at =
-  ap (λ z. then z (λ ss last. got (plus c (stepCounts ss)) last)) (steps-law behind file at)
-  ∙ (count-end c at (eqb at (length file)) ∙ count-end-on c file at (eqb at (length file)))
+    ap (λ z. then z (λ ss last. got (plus c (stepCounts ss)) last)) (steps-law behind file at)
+    ∙ (count-end c at (eqb at (length file)) ∙ count-end-on c file at (eqb at (length file)))
 count-next c (inside levels size) file at =
-  ap (λ z. then z (λ ss last. got (plus c (stepCounts ss)) last)) (steps-law (inside levels size) file at)
-  ∙ (then-then (stepAt levels size file at) _ _
-  ∙ (then-same (stepAt levels size file at) _ _ (λ h next. count-one c (h .step) (stepsAt (h .place) file next))
-  ∙ sym (then-then (stepAt levels size file at) _ _)))
+    ap (λ z. then z (λ ss last. got (plus c (stepCounts ss)) last)) (steps-law (inside levels size) file at)
+    ∙ (then-then (stepAt levels size file at) _ _
+    ∙ (then-same (stepAt levels size file at) _ _ (λ h next. count-one c (h .step) (stepsAt (h .place) file next))
+    ∙ sym (then-then (stepAt levels size file at) _ _)))
 
 -- the counts of a whole file
 counted-by : (file : List ℕ) (b : Bool)
-  → then (then (cond b (then (headAt file) (λ h at. then (stepsAt top file at) (λ ss last. got (walked h ss) last))) (fault 1 fileLimit))
-      (λ w last. got (said (w .head) (claimsOf [] (w .steps))) last)) (λ s n. got (countsOf (s .claims)) n)
+    → then (then (cond b (then (headAt file) (λ h at. then (stepsAt top file at) (λ ss last. got (walked h ss) last))) (fault 1 fileLimit))
+    (λ w last. got (said (w .head) (claimsOf [] (w .steps))) last)) (λ s n. got (countsOf (s .claims)) n)
     ≡ then (cond b (headAt file) (fault 1 fileLimit)) (λ h at. countsAt (counts 0 0 0) top file at)
 unfolding countsAt
 counted-by file false = refl
 counted-by file true =
-  then-then (then (headAt file) (λ h at. then (stepsAt top file at) (λ ss last. got (walked h ss) last))) _ _
-  ∙ (then-then (headAt file) _ _
-  ∙ then-same (headAt file) _ _ (λ h at.
-      then-then (stepsAt top file at) _ _
-      ∙ then-same (stepsAt top file at) _ _ (λ ss last. ap (λ z. got z last) (claims-counted [] ss ∙ sym (none-plus (stepCounts ss))))))
+    then-then (then (headAt file) (λ h at. then (stepsAt top file at) (λ ss last. got (walked h ss) last))) _ _
+    ∙ (then-then (headAt file) _ _
+    ∙ then-same (headAt file) _ _ (λ h at.
+    then-then (stepsAt top file at) _ _
+    ∙ then-same (stepsAt top file at) _ _ (λ ss last. ap (λ z. got z last) (claims-counted [] ss ∙ sym (none-plus (stepCounts ss))))))
 
 pub file-counted : (file : List ℕ)
-  → then (fileAt file) (λ s n. got (countsOf (s .claims)) n) ≡ then (startAt file) (λ h at. countsAt (counts 0 0 0) top file at)
+    → then (fileAt file) (λ s n. got (countsOf (s .claims)) n) ≡ then (startAt file) (λ h at. countsAt (counts 0 0 0) top file at)
 unfolding walkAt
 file-counted file = ap (λ z. then z (λ s n. got (countsOf (s .claims)) n)) (items-determine-claims file) ∙ counted-by file (leb (length file) fileLimit)
 
@@ -129,7 +129,7 @@ moved-end long at false = tt
 moved : (place : Place) (file : List ℕ) (at : ℕ) → Moved (length file) at (nextAt place file at)
 moved behind file at = moved-end (length file) at (eqb at (length file))
 moved (inside levels size) file at =
-  ⊎-elim (λ w. moved-some (length file) at (stepAt levels size file at) w (step-from levels size file at))
+    ⊎-elim (λ w. moved-some (length file) at (stepAt levels size file at) w (step-from levels size file at))
     (λ l. subst (λ o. Moved (length file) at (then o (λ h next. got (Some h) next))) (sym (step-past levels size file at l)) tt)
     (cases-lt at (length file))
 
@@ -175,5 +175,5 @@ module _ (file : List ℕ) (h : Head) (start : ℕ) (begun : got h start ≡ sta
   finished n e = ap (λ m. got c m) (sym (none-from place file at n e)) ∙ (next-on (got None n) e ∙ so-far)
 
   pub goes-on : (d : Counts) (s : Handed) (n : ℕ) → d ≡ plus c (adds (s .step .item)) → got (Some s) n ≡ nextAt place file at
-    → countsAt d (s .place) file n ≡ countsAt (counts 0 0 0) top file start
+      → countsAt d (s .place) file n ≡ countsAt (counts 0 0 0) top file start
   goes-on d s n e g = ap (λ z. countsAt z (s .place) file n) e ∙ (next-on (got (Some s) n) g ∙ inv)

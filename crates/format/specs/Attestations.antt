@@ -39,7 +39,7 @@ between lo hi b = leb lo b && leb b hi
 -- a letter, a digit or one of - . _ / :
 abbrev pub addressByte : ℕ → Bool
 addressByte b =
-  between 0x61 0x7a b || (between 0x41 0x5a b || (between 0x30 0x39 b
+    between 0x61 0x7a b || (between 0x41 0x5a b || (between 0x30 0x39 b
     || (eqb b 0x2d || (eqb b 0x2e || (eqb b 0x5f || (eqb b 0x2f || eqb b 0x3a))))))
 
 unfoldable pub addressBytes : List ℕ → Bool
@@ -58,11 +58,11 @@ heightAt file first end = whole first end (numberAt (take end file) first)
 -- the address in a payload, which is a length and that many bytes
 abbrev pub addressAt : List ℕ → ℕ → ℕ → Outcome (List ℕ)
 addressAt file first end =
-  whole first end (then (blockAt 0 addressLimit (take end file) first) (λ a n. cond (addressBytes a) (got a n) (fault 10 first)))
+    whole first end (then (blockAt 0 addressLimit (take end file) first) (λ a n. cond (addressBytes a) (got a n) (fault 10 first)))
 
 -- what the payload from first to end says under a tag
 abbrev pub contentAt : List ℕ → List ℕ → List ℕ → ℕ → ℕ → Outcome Att
 contentAt tag payload file first end =
-  cond (same tag bitcoinTag) (then (heightAt file first end) (λ h n. got (bitcoin h) n))
-  (cond (same tag pendingTag) (then (addressAt file first end) (λ a n. got (pending a) n))
-  (got (unknown tag payload) end))
+    cond (same tag bitcoinTag) (then (heightAt file first end) (λ h n. got (bitcoin h) n))
+    (cond (same tag pendingTag) (then (addressAt file first end) (λ a n. got (pending a) n))
+    (got (unknown tag payload) end))

@@ -21,22 +21,22 @@ pub data Piece : Type 0 where
 abbrev pub operationAt : Option Kind → ℕ → ℕ → ℕ → List ℕ → ℕ → Outcome Piece
 operationAt None offset depth size file at = fault 6 offset
 operationAt (Some kind) offset depth size file at =
-  cond (leb pathLimit depth) (fault 11 offset)
-  (then (argumentAt kind file at) (λ argument end.
+    cond (leb pathLimit depth) (fault 11 offset)
+    (then (argumentAt kind file at) (λ argument end.
     cond (leb (resultSize kind size (length argument)) messageLimit)
-      (got (operation kind argument offset (end - length argument)) end)
-      (fault 9 offset)))
+    (got (operation kind argument offset (end - length argument)) end)
+    (fault 9 offset)))
 
 -- an attestation: eight bytes of tag, then a payload that is read whole before anything in it
 abbrev pub attestationAt : List ℕ → ℕ → Outcome Piece
 attestationAt file at =
-  then (bytesAt 8 file at) (λ tag next.
-  then (blockAt 0 payloadLimit file next) (λ payload end.
-  then (contentAt tag payload file (end - length payload) end) (λ a last.
-  got (attestation a payload at (end - length payload)) last)))
+    then (bytesAt 8 file at) (λ tag next.
+    then (blockAt 0 payloadLimit file next) (λ payload end.
+    then (contentAt tag payload file (end - length payload) end) (λ a last.
+    got (attestation a payload at (end - length payload)) last)))
 
 -- 00 and an attestation, or an operation
 abbrev pub itemAt : ℕ → ℕ → List ℕ → ℕ → Outcome Piece
 itemAt depth size file at =
-  then (byteAt file at) (λ tag next.
-  cond (eqb tag 0) (attestationAt file next) (operationAt (kindOf tag) at depth size file next))
+    then (byteAt file at) (λ tag next.
+    cond (eqb tag 0) (attestationAt file next) (operationAt (kindOf tag) at depth size file next))

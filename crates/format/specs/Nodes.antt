@@ -33,7 +33,7 @@ Reading = ℕ → ℕ → List ℕ → ℕ → Outcome (List Claim)
 -- the claims through an item that has been read
 abbrev pub belowBy : Reading → Piece → Reading
 belowBy f (operation kind argument offset first) depth size file at =
-  then (f (depth + 1) (resultSize kind size (length argument)) file at) (λ cs last. got (map (under (opOf kind argument)) cs) last)
+    then (f (depth + 1) (resultSize kind size (length argument)) file at) (λ cs last. got (map (under (opOf kind argument)) cs) last)
 belowBy f (attestation a payload offset first) depth size file at = got (claim [] a ∷ []) at
 
 -- an item, and the node below it where it is an operation
@@ -43,9 +43,9 @@ branchBy f depth size file at = then (itemAt depth size file at) (λ p end. belo
 -- one branch, and the others where there are more
 abbrev pub nodeBy : Reading → Reading
 nodeBy f depth size file at =
-  then (moreAt file at) (λ more next.
-  then (branchBy f depth size file next) (λ cs after.
-  cond more (then (f depth size file after) (λ rest last. got (cs ++ rest) last)) (got cs after)))
+    then (moreAt file at) (λ more next.
+    then (branchBy f depth size file next) (λ cs after.
+    cond more (then (f depth size file after) (λ rest last. got (cs ++ rest) last)) (got cs after)))
 
 -- k bounds the nesting. Each branch takes a byte at least, so with no byte left the file ends inside the node
 unfoldable pub nodeFrom : ℕ → Reading

@@ -18,10 +18,10 @@ bytesAt n file at = cond (ltb (length file) (at + n)) (fault 2 (length file)) (g
 unfoldable pub numberFrom : ℕ → List ℕ → ℕ → ℕ → ℕ → ℕ → Outcome ℕ
 numberFrom zero file first w v at = fault 7 first
 numberFrom (suc k) file first w v at =
-  then (byteAt file at) (λ b next.
+    then (byteAt file at) (λ b next.
     cond (ltb b 128)
-      (cond (ltb (v + b * w) (2 ^ 32)) (got (v + b * w) next) (fault 7 first))
-      (numberFrom k file first (w * 128) (v + (b - 128) * w) next))
+    (cond (ltb (v + b * w) (2 ^ 32)) (got (v + b * w) next) (fault 7 first))
+    (numberFrom k file first (w * 128) (v + (b - 128) * w) next))
 
 -- a number has at most five bytes and is below 2 ^ 32
 unfoldable pub numberAt : List ℕ → ℕ → Outcome ℕ

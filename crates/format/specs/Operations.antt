@@ -28,11 +28,11 @@ opOf Hexlify argument = hexlify
 
 abbrev pub kindOf : ℕ → Option Kind
 kindOf tag =
-  cond (eqb tag 0x08) (Some Sha256)
-  (cond (eqb tag 0xf0) (Some Append)
-  (cond (eqb tag 0xf1) (Some Prepend)
-  (cond (eqb tag 0xf2) (Some Reverse)
-  (cond (eqb tag 0xf3) (Some Hexlify) None))))
+    cond (eqb tag 0x08) (Some Sha256)
+    (cond (eqb tag 0xf0) (Some Append)
+    (cond (eqb tag 0xf1) (Some Prepend)
+    (cond (eqb tag 0xf2) (Some Reverse)
+    (cond (eqb tag 0xf3) (Some Hexlify) None))))
 
 -- how long the result is, of a message of size bytes and an argument of n
 abbrev pub resultSize : Kind → ℕ → ℕ → ℕ

@@ -56,9 +56,9 @@ handed s place = record { step = s; place = place }
 -- the next item of the node under these levels
 abbrev pub stepAt : List Level → ℕ → List ℕ → ℕ → Outcome Handed
 stepAt levels size file at =
-  then (moreAt file at) (λ more next.
-  then (itemAt (length levels) size file next) (λ p end.
-  got (handed (step (length levels) p) (after more p levels size)) end))
+    then (moreAt file at) (λ more next.
+    then (itemAt (length levels) size file next) (λ p end.
+    got (handed (step (length levels) p) (after more p levels size)) end))
 
 -- the next item at a place, if one is left
 abbrev pub nextAt : Place → List ℕ → ℕ → Outcome (Option Handed)
@@ -70,9 +70,9 @@ unfoldable pub stepsFrom : Place → ℕ → List ℕ → ℕ → Outcome (List 
 stepsFrom behind k file at = endAt file [] at
 stepsFrom (inside levels size) zero file at = fault 2 (length file)
 stepsFrom (inside levels size) (suc k) file at =
-  then (stepAt levels size file at) (λ h next.
-  then (stepsFrom (h .place) k file next) (λ ss last.
-  got (h .step ∷ ss) last))
+    then (stepAt levels size file at) (λ h next.
+    then (stepsFrom (h .place) k file next) (λ ss last.
+    got (h .step ∷ ss) last))
 
 unfoldable pub stepsAt : Place → List ℕ → ℕ → Outcome (List Step)
 stepsAt place file at = stepsFrom place (length file - at) file at

@@ -12,11 +12,11 @@ weight-bound w k m e = let h : w ≤ w * 128 ^ k = le-mul-of-pos-right w (some-p
 
 pub weight-more : (w k j m : ℕ) → k ≡ suc j → w * 128 ^ k ≡ m → (w * 128) * 128 ^ j ≡ m
 weight-more w k j m l e =
-  mul-assoc w 128 (128 ^ j) ∙ ap (λ x. w * x) (sym (pow-succ' 128 j)) ∙ ap (λ x. w * 128 ^ x) (sym l) ∙ e
+    mul-assoc w 128 (128 ^ j) ∙ ap (λ x. w * x) (sym (pow-succ' 128 j)) ∙ ap (λ x. w * 128 ^ x) (sym l) ∙ e
 
 -- a group b below g on top of a value below its weight
 pub group-bound : (v b w g m : ℕ) → v < w → b < g → w ≤ m → v + b * w < g * m
 group-bound v b w g m u l n =
-  let h : (b + 1) * w ≤ g * m = mul-le-mul (omega arith) n in
-  let e : (b + 1) * w ≡ b * w + 1 * w = add-mul b 1 w in
-  omega arith
+    let h : (b + 1) * w ≤ g * m = mul-le-mul (omega arith) n in
+    let e : (b + 1) * w ≡ b * w + 1 * w = add-mul b 1 w in
+    omega arith

@@ -21,5 +21,5 @@ piece (Attestation content payload offset first) = attestation (attested content
 -- what is known of an item that was read under depth operations, over a message of size bytes
 abbrev pub Bounded : ℕ → ℕ → Item → Type 0
 Bounded depth size (Operation kind argument offset first) =
-  (depth < pathLimit) × (length (argument .now) ≤ messageLimit) × (resultSize kind size (length (argument .now)) ≤ messageLimit)
+    (depth < pathLimit) × (length (argument .now) ≤ messageLimit) × (resultSize kind size (length (argument .now)) ≤ messageLimit)
 Bounded depth size (Attestation content payload offset first) = Unit {0}

@@ -13,10 +13,12 @@ use crate::item::Item;
 use crate::reader::Reader;
 
 const BITCOIN: [u8; 8] = [0x05, 0x88, 0x96, 0x0d, 0x73, 0xd7, 0x19, 0x01];
+
 const PENDING: [u8; 8] = [0x83, 0xdf, 0xe3, 0x0d, 0x2e, 0xf9, 0x0c, 0x8e];
 
 // The longest payload and the longest address.
 const PAYLOAD: u32 = 8192;
+
 const ADDRESS: u32 = 1000;
 
 impl<'a> Reader<'a> {
@@ -31,12 +33,23 @@ impl<'a> Reader<'a> {
         let payload = self.block(0, PAYLOAD)?;
         let first = self.at - payload.len();
         let content = content(tag, payload, self.file, first, self.at)?;
-        Ok(Item::Attestation { content, payload, offset, first })
+        Ok(Item::Attestation {
+            content,
+            payload,
+            offset,
+            first,
+        })
     }
 }
 
 // What the payload, which is the file from first to end, says under the tag.
-fn content<'a>(tag: &'a [u8], payload: &'a [u8], file: &'a [u8], first: usize, end: usize) -> Result<Content<'a>, Fault>
+fn content<'a>(
+    tag: &'a [u8],
+    payload: &'a [u8],
+    file: &'a [u8],
+    first: usize,
+    end: usize,
+) -> Result<Content<'a>, Fault>
     requires { ⌜ first ≤ end ⌝ ∗ ⌜ end ≤ length (now file) ⌝ }
     ensures { λ r. ⌜ outcome attested r end ≡ contentAt (now (tag .entry)) (now (payload .entry)) (now (file .entry)) first end ⌝ }
 {
@@ -68,7 +81,10 @@ pub fn height(file: &[u8], first: usize, end: usize) -> Result<u32, Fault>
     requires { ⌜ first ≤ end ⌝ ∗ ⌜ end ≤ length (now file) ⌝ }
     ensures { λ r. ⌜ outcome (λ n. n) r end ≡ heightAt (now (file .entry)) first end ⌝ }
 {
-    let mut inner = Reader { file: &file[0..end], at: first };
+    let mut inner = Reader {
+        file: &file[0..end],
+        at: first,
+    };
     match inner.number() {
         Ok(n) => {
             if inner.at == end {
@@ -87,7 +103,10 @@ pub fn address<'a>(file: &'a [u8], first: usize, end: usize) -> Result<&'a [u8],
     requires { ⌜ first ≤ end ⌝ ∗ ⌜ end ≤ length (now file) ⌝ }
     ensures { λ r. ⌜ outcome (λ a. now a) r end ≡ addressAt (now (file .entry)) first end ⌝ }
 {
-    let mut inner = Reader { file: &file[0..end], at: first };
+    let mut inner = Reader {
+        file: &file[0..end],
+        at: first,
+    };
     match inner.block(0, ADDRESS) {
         Ok(address) => {
             if inner.at == end && in_address(address) {

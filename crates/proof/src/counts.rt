@@ -42,7 +42,11 @@ pub fn count(file: &[u8]) -> Result<Counts, Fault>
     ensures { λ r. ⌜ outcome counted r (length (now (file .entry))) ≡ then (fileAt (now (file .entry))) (λ s n. got (countsOf (s .claims)) n) ⌝ }
 {
     let mut walk = Walk::new(file)?;
-    let mut counts = Counts { pending: 0, bitcoin: 0, unknown: 0 };
+    let mut counts = Counts {
+        pending: 0,
+        bitcoin: 0,
+        unknown: 0,
+    };
     while let Some(step) = walk.next()? {
         counts.note(&step.item);
     }

@@ -5,8 +5,18 @@ use format::Kind;
 // between the two, so neither follows from the other.
 #[derive(Clone, Copy)]
 pub enum Item<'a> {
-    Operation { kind: Kind, argument: &'a [u8], offset: usize, first: usize },
-    Attestation { content: Content<'a>, payload: &'a [u8], offset: usize, first: usize },
+    Operation {
+        kind: Kind,
+        argument: &'a [u8],
+        offset: usize,
+        first: usize,
+    },
+    Attestation {
+        content: Content<'a>,
+        payload: &'a [u8],
+        offset: usize,
+        first: usize,
+    },
 }
 
 // What an attestation says: a calendar's address, a block's height, or a tag that is not known here.

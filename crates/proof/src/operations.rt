@@ -38,7 +38,13 @@ impl<'a> Reader<'a> {
     }
 
     // The operation whose tag stands at offset, under depth others, over a message of size bytes.
-    pub(crate) fn operation(&mut self, tag: u8, offset: usize, depth: u8, size: u16) -> Result<Item<'a>, Fault>
+    pub(crate) fn operation(
+        &mut self,
+        tag: u8,
+        offset: usize,
+        depth: u8,
+        size: u16,
+    ) -> Result<Item<'a>, Fault>
         ensures bounds { λ r. ⌜ made r (λ i. Bounded depth size i) ⌝ }
         ensures same { λ _. ⌜ now (now (self .exit) .file) ≡ now (now (self .entry) .file) ⌝ }
         ensures reads { λ r. ⌜ outcome piece r (now (self .exit) .at) ≡ operationAt (kindOf tag) offset depth size (now (now (self .entry) .file)) (now (self .entry) .at) ⌝ }
@@ -54,7 +60,12 @@ impl<'a> Reader<'a> {
             return Err(Fault::Result(offset));
         }
         let first = self.at - argument.len();
-        Ok(Item::Operation { kind, argument, offset, first })
+        Ok(Item::Operation {
+            kind,
+            argument,
+            offset,
+            first,
+        })
     }
 }
 

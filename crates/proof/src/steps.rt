@@ -33,7 +33,15 @@ impl<'a> Walk<'a> {
         }
         let mut reader = Reader { file, at: 0 };
         let head = reader.head()?;
-        Ok(Walk { reader, head, more: [false; 256], sizes: [0; 256], depth: 0, size: 32, inside: true })
+        Ok(Walk {
+            reader,
+            head,
+            more: [false; 256],
+            sizes: [0; 256],
+            depth: 0,
+            size: 32,
+            inside: true,
+        })
     }
 
     // The offset of the file hash tag, and the digest.

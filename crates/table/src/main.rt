@@ -24,7 +24,11 @@ fn first<'a>(table: &'a [u8]) -> Option<Entry<'a>> {
         return None;
     }
     let end = 5 + name;
-    Some(Entry { name: &table[5..end], file: &table[end..end + size], rest: &table[end + size..] })
+    Some(Entry {
+        name: &table[5..end],
+        file: &table[end..end + size],
+        rest: &table[end + size..],
+    })
 }
 
 fn say(rt: &LibcRuntime, entry: &Entry) -> Result<(), AnyError> {
@@ -34,7 +38,10 @@ fn say(rt: &LibcRuntime, entry: &Entry) -> Result<(), AnyError> {
             let pending = counts.pending;
             let bitcoin = counts.bitcoin;
             let unknown = counts.unknown;
-            println!(rt, "{name}: accepted pending {pending} bitcoin {bitcoin} unknown {unknown}")?;
+            println!(
+                rt,
+                "{name}: accepted pending {pending} bitcoin {bitcoin} unknown {unknown}"
+            )?;
         }
         Err(fault) => {
             let refused = refused_line(rt.alloc(), &fault)?;

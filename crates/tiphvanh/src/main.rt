@@ -29,18 +29,32 @@ fn word(words: &Vec<String>, at: usize) -> &str {
 
 fn usage(rt: &LibcRuntime) -> Result<(), AnyError> {
     println!(rt, "usage: tiphvanh COMMAND")?;
-    println!(rt, "  show PROOF   every item of an OpenTimestamps proof with its offset, and its claims counted")?;
+    println!(
+        rt,
+        "  show PROOF   every item of an OpenTimestamps proof with its offset, and its claims counted"
+    )?;
     println!(rt, "  show --messages PROOF")?;
-    println!(rt, "               the same, with the message that each attestation is of")?;
+    println!(
+        rt,
+        "               the same, with the message that each attestation is of"
+    )?;
     println!(rt, "  version      the version of this program")?;
     println!(rt, "  help         this text")?;
-    println!(rt, "A refused proof ends with `refused NUMBER at OFFSET` and status 1.")?;
+    println!(
+        rt,
+        "A refused proof ends with `refused NUMBER at OFFSET` and status 1."
+    )?;
     Ok(())
 }
 
 fn run(rt: &LibcRuntime) -> Result<(), AnyError> {
     let words = words(rt)?;
-    match parse(words.len(), word(&words, 0), word(&words, 1), word(&words, 2)) {
+    match parse(
+        words.len(),
+        word(&words, 0),
+        word(&words, 1),
+        word(&words, 2),
+    ) {
         Command::Usage => usage(rt),
         Command::Version => {
             println!(rt, "{VERSION}")?;

@@ -8,8 +8,8 @@ use account::lines::root_line;
 use account::refusals::around_line;
 use account::refusals::fault_line;
 use account::refusals::refused_line;
-use proof::counts::count;
 use format::Kind;
+use proof::counts::count;
 use proof::fault::Fault;
 use proof::item::Content;
 use proof::item::Item;
@@ -52,14 +52,18 @@ fn items(rt: &LibcRuntime, file: &[u8], messages: bool) -> Result<(), AnyError> 
     match Walk::new(file) {
         Ok(mut walk) => {
             let head = walk.head();
-            let mut path = [Link { kind: Kind::Sha256, argument: head.digest }; 256];
+            let mut path = [Link {
+                kind: Kind::Sha256,
+                argument: head.digest,
+            }; 256];
             rt.println(digest_line(rt.alloc(), head.digest, head.hash)?)?;
             for _ in 0..MOST {
                 match walk.next() {
                     Ok(Some(step)) => {
                         rt.println(item_line(rt.alloc(), &step)?)?;
                         match step.item {
-                            Item::Operation { kind, argument, .. } => path[step.depth as usize] = Link { kind, argument },
+                            Item::Operation { kind, argument, .. } => path[step.depth as usize] =
+                                Link { kind, argument },
                             Item::Attestation { content, .. } => {
                                 if messages {
                                     message(rt, step.depth, &path, head.digest, &content)?;
@@ -78,7 +82,13 @@ fn items(rt: &LibcRuntime, file: &[u8], messages: bool) -> Result<(), AnyError> 
 }
 
 // The message that the path makes of the digest; turned round too under a block, as its root is printed elsewhere.
-fn message(rt: &LibcRuntime, depth: u8, path: &[Link], digest: &[u8], content: &Content) -> Result<(), AnyError> {
+fn message(
+    rt: &LibcRuntime,
+    depth: u8,
+    path: &[Link],
+    digest: &[u8],
+    content: &Content,
+) -> Result<(), AnyError> {
     let mut area = [0u8; ROOM];
     if depth as usize > path.len() {
         return Ok(());

@@ -11,9 +11,9 @@ use Rattle.proof.proofs.counts.count.Given as given
 -- what is counted and what is still to come make up the counts of the whole walk
 abbrev pub Inv-loop-step : given.InvT-loop-step
 Inv-loop-step l =
-  (l .walk .reader .file .now ≡ l .entry .walk .reader .file .now)
-  × (l .counts .pending + l .counts .bitcoin + l .counts .unknown ≤ l .walk .reader .at)
-  × (countsAt (counted (l .counts)) (placeOf (l .walk)) (l .entry .walk .reader .file .now) (l .walk .reader .at)
+    (l .walk .reader .file .now ≡ l .entry .walk .reader .file .now)
+    × (l .counts .pending + l .counts .bitcoin + l .counts .unknown ≤ l .walk .reader .at)
+    × (countsAt (counted (l .counts)) (placeOf (l .walk)) (l .entry .walk .reader .file .now) (l .walk .reader .at)
     ≡ countsAt (counts 0 0 0) top (l .entry .walk .reader .file .now) (l .entry .walk .reader .at))
 
 abbrev pub μ-loop-step : given.MeasureT-loop-step

@@ -7,11 +7,11 @@ use Rattle.proof.proofs.steps.going_on.Needs as need
 
 pub returns-then-more-d : need.returns-then-more-d
 returns-then-more-d c = λ sizes.
-  c .loop-d .inv sizes ∙ (levels-more (c .args .more .now) sizes (c .loop-d .d) (c .loop-d .d - 1) (omega arith) ∙ cond-true _ _ _ (c .if-more-d .taken))
+    c .loop-d .inv sizes ∙ (levels-more (c .args .more .now) sizes (c .loop-d .d) (c .loop-d .d - 1) (omega arith) ∙ cond-true _ _ _ (c .if-more-d .taken))
 
 pub loop-d-again : need.loop-d-again
 loop-d-again c = λ sizes.
-  c .loop-d .inv sizes ∙ (levels-more (c .args .more .now) sizes (c .loop-d .d) (c .loop-d .d - 1) (omega arith) ∙ cond-false _ _ _ (c .if-more-d .left))
+    c .loop-d .inv sizes ∙ (levels-more (c .args .more .now) sizes (c .loop-d .d) (c .loop-d .d - 1) (omega arith) ∙ cond-false _ _ _ (c .if-more-d .left))
 
 pub loop-d-holds : need.loop-d-holds
 loop-d-holds c = λ sizes. refl

@@ -35,12 +35,13 @@ pub mul-weight : need.mul-weight
 mul-weight c = let w = weight-bound _ _ _ (c .loop-left .inv .1) in omega arith
 
 pub loop-left-again : need.loop-left-again
-loop-left-again c = let s = number-more (c .loop-left .left) (c .loop-left .left - 1) (c .args .self .now .file .now) (c .args .self .now .at) (c .loop-left .weight) (c .loop-left .value) (c .loop-left .self .at) (omega arith) in 
-  let g = group-bound _ (c .in-Continue-b .b - 128) _ 128 _ (c .loop-left .inv .2) (omega arith) (le-refl (c .loop-left .weight)) in
-  ( search needs
-  , weight-more _ _ (c .loop-left .left - 1) _ (omega arith) (c .loop-left .inv .1)
-  , omega arith
-  , search needs)
+loop-left-again c = let s = number-more (c .loop-left .left) (c .loop-left .left - 1) (c .args .self .now .file .now) (c .args .self .now .at) (c .loop-left .weight) (c .loop-left .value) (c .loop-left .self .at) (omega arith) in
+    let g = group-bound _ (c .in-Continue-b .b - 128) _ 128 _ (c .loop-left .inv .2) (omega arith) (le-refl (c .loop-left .weight)) in (
+      search needs,
+      weight-more _ _ (c .loop-left .left - 1) _ (omega arith) (c .loop-left .inv .1),
+      omega arith,
+      search needs,
+    )
 
 pub returns : need.returns
 returns c = record { same = c .loop-left .inv .0; reads = sym (number-none (c .loop-left .left) (c .args .self .now .file .now) (c .args .self .now .at) (c .loop-left .weight) (c .loop-left .value) (c .loop-left .self .at) (omega arith)) ∙ c .loop-left .inv .3 }
