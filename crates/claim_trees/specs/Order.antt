@@ -66,7 +66,7 @@ byteOrder xs ys = lex unsigned xs ys
 abbrev pub opOrder : Op → Op → Ordering
 opOrder o p = thenBy (rank (opTag o) (opTag p)) (byteOrder (argumentOf o) (argumentOf p))
 
--- by tag, then by height as a number, address bytes or payload bytes
+-- the tag decides first; under one tag the height does, read as a number, or else the bytes of the address or payload
 abbrev pub attOrder : Att → Att → Ordering
 attOrder a b =
     thenBy (byteOrder (tagOf a) (tagOf b))
