@@ -1,9 +1,9 @@
 // The lines of an account: one for the digest, one for each item, one for the counts.
 ghost use mathlib.Core.List.{_++_, reverse};
 ghost use Prim.Native.Nat.{_+_, _*_, _<_};
-ghost use mathlib.Core.Path.{_≡_};
 ghost use lib.Chars.{codes};
 ghost use lib.ListN.{length, replicate};
+ghost use mathlib.Core.Path.{_≡_};
 ghost use Rattle.std.specs.Of.String.{string-bytes};
 ghost use Rattle.std.specs.Of.Vec.{vec-items};
 ghost use Rattle.std.specs.Vec.{made};

@@ -1,8 +1,8 @@
 // Bytes as text.
 ghost use mathlib.Core.List.{_++_};
 ghost use Prim.Native.Nat.{_+_, _*_, _<_};
-ghost use mathlib.Core.Path.{_≡_};
 ghost use lib.ListN.{length, replicate};
+ghost use mathlib.Core.Path.{_≡_};
 ghost use lib.Chars.{codes};
 ghost use lib.Utf8.{encodes};
 ghost use Rattle.std.specs.Of.String.{string-bytes};
