@@ -1,0 +1,21 @@
+// Judges: what they are, and those that are delivered.
+ghost use Rattle.judge.specs.Meaning.{Pairing-is-associative, Nobody-changes-nothing};
+
+pub mod judge;
+pub mod nobody;
+pub mod pair;
+pub mod verdict;
+
+// A law: how pairs are nested makes no difference to a verdict, only the order of the judges does.
+pub fn pairing_is_associative() -> u8
+    ensures { λ _. ⌜ Pairing-is-associative ⌝ }
+{
+    0
+}
+
+// A law: a judge that owns nothing changes no verdict, on either side of a pair.
+pub fn nobody_changes_nothing() -> u8
+    ensures { λ _. ⌜ Nobody-changes-nothing ⌝ }
+{
+    0
+}
