@@ -1,2 +1,4 @@
 pub mod Little
 pub mod Lawfulness
+pub mod Firsts
+pub mod Passing

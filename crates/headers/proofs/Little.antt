@@ -7,8 +7,8 @@ use native.Mathlib.Numerals.{add-one}
 use native.Mathlib.Nat.{pow-suc, pow-succ', mul-assoc, mul-add, mul-le-mul-left, mul-suc, mul-one, mul-zero, pow-le-pow-right}
 use native.Mathlib.Omega.{arith}
 use lib.Dec.{leb, ltb}
-use lib.ListN.{length, getD, take, set}
-use Rattle.std.proofs.shelf.Lists.{take-more, take-more-set, take-all, length-take-le}
+use lib.ListN.{length, getD, take, drop, set}
+use Rattle.std.proofs.shelf.Lists.{take-more, take-more-set, take-all, length-take-le, drop-more}
 use Rattle.std.proofs.shelf.Tests.{le-leb, lt-leb, lt-ltb, le-ltb, cases-lt}
 use Rattle.std.proofs.shelf.Ways.{tells}
 use Rattle.headers.specs.Targets.{little}
@@ -103,3 +103,18 @@ room xs k at left x n e z is lt =
   let y : 256 ^ max k at * left ≡ 0 = ap (λ v. 256 ^ max k at * v) z ∙ mul-zero (256 ^ max k at) in
   let p : 256 ^ k ≡ 2 ^ 256 = ap (λ v. 256 ^ v) e in
   (omega arith, omega arith)
+
+-- four bytes
+pub little-four : (xs : List ℕ) (at : ℕ) → at + 4 ≤ length xs
+  → little (take 4 (drop at xs)) ≡ getD xs at 0 + getD xs (at + 1) 0 * 256 + getD xs (at + 2) 0 * 65536 + getD xs (at + 3) 0 * 16777216
+unfolding little
+little-four xs at h =
+  let a = drop-more xs at 0 (omega arith) in
+  let b = drop-more xs (at + 1) 0 (omega arith) in
+  let c = drop-more xs (at + 2) 0 (omega arith) in
+  let d = drop-more xs (at + 3) 0 (omega arith) in
+  let p : at + 1 + 1 ≡ at + 2 = omega arith in
+  let q : at + 2 + 1 ≡ at + 3 = omega arith in
+  let e : drop at xs ≡ getD xs at 0 ∷ getD xs (at + 1) 0 ∷ getD xs (at + 2) 0 ∷ getD xs (at + 3) 0 ∷ drop (at + 3 + 1) xs =
+    cc in
+  ap (λ z. little (take 4 z)) e ∙ omega arith

@@ -1,1 +1,4 @@
 pub mod Targets
+pub mod Headers
+pub mod Steps
+pub mod Following

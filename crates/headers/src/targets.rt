@@ -8,7 +8,7 @@ ghost use Rattle.std.specs.Options.{Cases};
 ghost use Rattle.headers.specs.Targets.{little, mantissa, exponent, targetOf, lawful, Means};
 
 // Whether the number in a is at most the one in b.
-pub fn at_most(a: &[u8], b: &[u8]) -> bool
+pub(crate) fn at_most(a: &[u8], b: &[u8]) -> bool
     requires { ⌜ length (now a) ≡ length (now b) ⌝ }
     ensures { λ r. ⌜ r ≡ leb (little (now (a .entry))) (little (now (b .entry))) ⌝ }
 {
