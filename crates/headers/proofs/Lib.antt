@@ -1,4 +1,6 @@
 pub mod Little
 pub mod Lawfulness
 pub mod Firsts
+pub mod Sames
 pub mod Passing
+pub mod Longest

@@ -46,3 +46,6 @@ walked base previous most bytes =
 -- an unlawful ceiling covers nothing
 abbrev pub runOf : ℕ → List ℕ → ℕ → List ℕ → Run
 runOf base previous ceiling bytes = cond (lawful ceiling) (walked base previous (targetOf ceiling) bytes) (run 0 Ceiling)
+
+unfoldable pub coveredBy : ℕ → List ℕ → ℕ → List ℕ → ℕ
+coveredBy base previous ceiling bytes = runOf base previous ceiling bytes .covered
