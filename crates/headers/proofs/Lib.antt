@@ -4,3 +4,4 @@ pub mod Firsts
 pub mod Sames
 pub mod Passing
 pub mod Longest
+pub mod Extending
