@@ -10,12 +10,12 @@ use Rattle.std.proofs.shelf.Lists.{take-append-le, drop-append-le}
 use Rattle.headers.specs.declared.ending.Ending.the-variants.{Ceiling}
 use Rattle.headers.specs.Targets.{targetOf, lawful}
 use Rattle.headers.specs.Headers.{headerAt, hashOf, hashBefore}
-use Rattle.headers.specs.Steps.{countLimit, heightLimit}
+use Rattle.headers.specs.Steps.{countLimit}
 use Rattle.headers.specs.Following.{goesOn, passes, covers, run, walked, coveredBy}
 use Rattle.headers.specs.Runs.{Extends, More-bytes-extend-the-run}
 use Rattle.headers.proofs.Firsts.{first-later}
 use Rattle.headers.proofs.Passing.{Room, Passes, room-of, passes-of}
-use Rattle.headers.proofs.Longest.{passing, step-ok, covers-the-longest-run}
+use Rattle.headers.proofs.Longest.{passing, step-ok, covered-good}
 
 pub header-same : (bytes more : List ℕ) (k : ℕ) → 80 * k + 80 ≤ length bytes → headerAt (bytes ++ more) k ≡ headerAt bytes k
 header-same bytes more k h =
@@ -62,8 +62,8 @@ covered-more base previous ceiling bytes more = by (lawful ceiling)
     by false = omega arith
 
 pub more-bytes-extend-the-run : More-bytes-extend-the-run
-more-bytes-extend-the-run base previous ceiling bytes more b =
+more-bytes-extend-the-run base previous ceiling bytes more =
   record {
     longer = covered-more base previous ceiling bytes more;
-    same = λ k l. header-same bytes more k (covers-the-longest-run base previous ceiling bytes b .run .good k l .whole)
+    same = λ k l. header-same bytes more k (covered-good base previous ceiling bytes k l .whole)
   }

@@ -88,6 +88,23 @@ good-passes base previous ceiling bytes k l m g =
       hash = refl
     }))
 
+covers-good : (base : ℕ) (previous : List ℕ) (ceiling : ℕ) (bytes : List ℕ) (k : ℕ)
+  → lawful ceiling ≡ true → k < covers base previous (targetOf ceiling) bytes → Good previous ceiling bytes k
+unfolding covers
+covers-good base previous ceiling bytes k c l =
+  good-from base previous ceiling bytes k c (first-is (passes base previous (targetOf ceiling) bytes) 0 countLimit .before k (omega arith) l) .1
+
+-- every header that is covered is good
+pub covered-good : (base : ℕ) (previous : List ℕ) (ceiling : ℕ) (bytes : List ℕ) (k : ℕ)
+  → k < coveredBy base previous ceiling bytes → Good previous ceiling bytes k
+unfolding walked coveredBy
+covered-good base previous ceiling bytes k = by (lawful ceiling) refl
+  where
+    by : (t : Bool) → lawful ceiling ≡ t
+      → k < cond t (walked base previous (targetOf ceiling) bytes) (run 0 Ceiling) .covered → Good previous ceiling bytes k
+    by true c l = covers-good base previous ceiling bytes k c l
+    by false c l = absurd (omega arith)
+
 -- under a lawful ceiling
 longest-lawful : (base : ℕ) (previous : List ℕ) (ceiling : ℕ) (bytes : List ℕ)
   → base ≤ heightLimit → lawful ceiling ≡ true → IsLongest base previous ceiling bytes (covers base previous (targetOf ceiling) bytes)
@@ -104,7 +121,7 @@ longest-lawful base previous ceiling bytes b c =
         (λ l. let r = good-from base previous ceiling bytes (n - 1) c (f .before (n - 1) (omega arith) (omega arith)) .0 .height in omega arith)
         (λ l. omega arith)
         (cases-lt 0 n);
-      good = λ k l. good-from base previous ceiling bytes k c (f .before k (omega arith) l) .1
+      good = λ k l. covers-good base previous ceiling bytes k c l
     };
     longest = λ m r.
       let u = r .count in

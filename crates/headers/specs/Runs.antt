@@ -41,5 +41,4 @@ pub record Extends (base : ℕ) (previous : List ℕ) (ceiling : ℕ) (bytes mor
 
 abbrev pub More-bytes-extend-the-run : Type 0
 More-bytes-extend-the-run =
-  (base : ℕ) (previous : List ℕ) (ceiling : ℕ) (bytes more : List ℕ)
-  → base ≤ heightLimit → Extends base previous ceiling bytes more
+  (base : ℕ) (previous : List ℕ) (ceiling : ℕ) (bytes more : List ℕ) → Extends base previous ceiling bytes more

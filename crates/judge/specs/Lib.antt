@@ -1,1 +1,3 @@
 pub mod Meaning
+pub mod HeaderRules
+pub mod Lasting

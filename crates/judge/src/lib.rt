@@ -1,6 +1,8 @@
 // Judges: what they are, and those that are delivered.
+ghost use Rattle.judge.specs.Lasting.{Decisions-last};
 ghost use Rattle.judge.specs.Meaning.{Pairing-is-associative, Nobody-changes-nothing};
 
+pub mod header_judge;
 pub mod judge;
 pub mod nobody;
 pub mod pair;
@@ -16,6 +18,13 @@ pub fn pairing_is_associative() -> u8
 // A law: a judge that owns nothing changes no verdict, on either side of a pair.
 pub fn nobody_changes_nothing() -> u8
     ensures { λ _. ⌜ Nobody-changes-nothing ⌝ }
+{
+    0
+}
+
+// A law: headers that follow never change a confirmed or a rejected verdict.
+pub fn decisions_last() -> u8
+    ensures { λ _. ⌜ Decisions-last ⌝ }
 {
     0
 }
