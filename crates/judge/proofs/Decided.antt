@@ -15,8 +15,8 @@ use Rattle.headers.specs.Following.{coveredBy}
 use Rattle.headers.proofs.Extending.{more-bytes-extend-the-run}
 use Rattle.judge.specs.declared.verdict.Verdict.{Verdict}
 use Rattle.judge.specs.declared.verdict.Verdict.the-variants.{Confirmed, Rejected, Waiting, Foreign}
-use Rattle.judge.specs.Meaning.{Ruling, confirmed, rejected, waiting, spoken, judged}
-use Rattle.judge.specs.HeaderRules.{ruledAt, ruledBy, headerMeaning}
+use Rattle.judge.specs.Meaning.{Ruling, confirmed, rejected, waiting, ruledBy, spoken, judged}
+use Rattle.judge.specs.HeaderRules.{ruledAt, headerMeaning}
 use Rattle.judge.specs.Lasting.{Decisions-last}
 
 -- what a message is against one header

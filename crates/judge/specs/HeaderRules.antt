@@ -4,11 +4,10 @@ use mathlib.Core.List.{List}
 use Prim.Native.Nat.{ℕ, _-_}
 use lib.Dec.{leb, ltb}
 use lib.ListN.{length}
-use Rattle.format.specs.Outcome.{Outcome, got, fault}
 use Rattle.format.specs.Attestations.{same, bitcoinTag, heightAt}
 use Rattle.headers.specs.Headers.{headerAt, rootOf, timeOf}
 use Rattle.headers.specs.Following.{coveredBy}
-use Rattle.judge.specs.Meaning.{Ruling, confirmed, rejected, waiting, Meaning}
+use Rattle.judge.specs.Meaning.{Ruling, confirmed, rejected, waiting, ruledBy, Meaning}
 
 -- a message against the header of its height: it waits where the height is not covered
 abbrev pub ruledAt : ℕ → ℕ → List ℕ → List ℕ → ℕ → Ruling
@@ -17,11 +16,7 @@ ruledAt base covered bytes message height =
     (cond (same message (rootOf (headerAt bytes (height - base)))) (confirmed (timeOf (headerAt bytes (height - base)))) rejected)
     waiting
 
--- a payload is exactly one number, or it is rejected
-abbrev pub ruledBy : (ℕ → Ruling) → Outcome ℕ → Ruling
-ruledBy rule (got height next) = rule height
-ruledBy rule (fault number at) = rejected
-
+-- it owns the Bitcoin tag, and a payload is exactly one number
 abbrev pub headerMeaning : ℕ → List ℕ → ℕ → List ℕ → Meaning
 headerMeaning base previous ceiling bytes = record {
   owns = λ tag. same tag bitcoinTag;

@@ -1,3 +1,6 @@
 pub mod Meaning
 pub mod HeaderRules
 pub mod Lasting
+pub mod Listing
+pub mod CalendarRules
+pub mod Working

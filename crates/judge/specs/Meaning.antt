@@ -3,6 +3,7 @@ use mathlib.Core.Bool.{Bool, true, false, cond, _||_}
 use mathlib.Core.List.{List}
 use mathlib.Core.Path.{_≡_}
 use Prim.Native.Nat.{ℕ}
+use Rattle.format.specs.Outcome.{Outcome, got, fault}
 use Rattle.judge.specs.declared.verdict.Verdict.{Verdict}
 use Rattle.judge.specs.declared.verdict.Verdict.the-variants.{Confirmed, Rejected, Waiting, Foreign}
 
@@ -25,6 +26,11 @@ spoken waiting = Waiting
 -- the verdict under a meaning: foreign for every tag that is not owned
 abbrev pub judged : Meaning → List ℕ → List ℕ → List ℕ → Verdict
 judged m tag payload message = cond (m .owns tag) (spoken (m .rules tag payload message)) Foreign
+
+-- a payload that holds what its tag promises is ruled by that, any other is rejected
+abbrev pub ruledBy : {A : Type 0} → (A → Ruling) → Outcome A → Ruling
+ruledBy rule (got x next) = rule x
+ruledBy rule (fault number at) = rejected
 
 -- it owns nothing, so its rulings are never heard
 abbrev pub nobody : Meaning
