@@ -105,6 +105,18 @@ covered-good base previous ceiling bytes k = by (lawful ceiling) refl
     by true c l = covers-good base previous ceiling bytes k c l
     by false c l = absurd (omega arith)
 
+covers-count : (base : ℕ) (previous : List ℕ) (most : ℕ) (bytes : List ℕ) → covers base previous most bytes ≤ countLimit
+unfolding covers
+covers-count base previous most bytes = let w = first-is (passes base previous most bytes) 0 countLimit .within in omega arith
+
+pub covered-count : (base : ℕ) (previous : List ℕ) (ceiling : ℕ) (bytes : List ℕ) → coveredBy base previous ceiling bytes ≤ countLimit
+unfolding walked coveredBy
+covered-count base previous ceiling bytes = by (lawful ceiling)
+  where
+    by : (t : Bool) → cond t (walked base previous (targetOf ceiling) bytes) (run 0 Ceiling) .covered ≤ countLimit
+    by true = covers-count base previous (targetOf ceiling) bytes
+    by false = omega arith
+
 -- under a lawful ceiling
 longest-lawful : (base : ℕ) (previous : List ℕ) (ceiling : ℕ) (bytes : List ℕ)
   → base ≤ heightLimit → lawful ceiling ≡ true → IsLongest base previous ceiling bytes (covers base previous (targetOf ceiling) bytes)

@@ -1,7 +1,7 @@
 -- What the header judge means.
 use mathlib.Core.Bool.{cond, _&&_}
 use mathlib.Core.List.{List}
-use Prim.Native.Nat.{ℕ, _-_}
+use Prim.Native.Nat.{ℕ, _-_, _/_}
 use lib.Dec.{leb, ltb}
 use lib.ListN.{length}
 use Rattle.format.specs.Attestations.{same, bitcoinTag, heightAt}
@@ -17,9 +17,16 @@ ruledAt base covered bytes message height =
     waiting
 
 -- it owns the Bitcoin tag, and a payload is exactly one number
-abbrev pub headerMeaning : ℕ → List ℕ → ℕ → List ℕ → Meaning
-headerMeaning base previous ceiling bytes = record {
+abbrev pub byHeaders : ℕ → ℕ → List ℕ → Meaning
+byHeaders base covered bytes = record {
   owns = λ tag. same tag bitcoinTag;
-  rules = λ tag payload message.
-    ruledBy (ruledAt base (coveredBy base previous ceiling bytes) bytes message) (heightAt payload 0 (length payload))
+  rules = λ tag payload message. ruledBy (ruledAt base covered bytes message) (heightAt payload 0 (length payload))
 }
+
+-- the longest run is covered
+abbrev pub headerMeaning : ℕ → List ℕ → ℕ → List ℕ → Meaning
+headerMeaning base previous ceiling bytes = byHeaders base (coveredBy base previous ceiling bytes) bytes
+
+-- the same by the covered headers alone, which the judge keeps
+abbrev pub standing : ℕ → List ℕ → Meaning
+standing base covered = byHeaders base (length covered / 80) covered

@@ -4,3 +4,4 @@ pub mod Lasting
 pub mod Listing
 pub mod CalendarRules
 pub mod Working
+pub mod Choosing

@@ -3,7 +3,9 @@ ghost use Rattle.judge.specs.Listing.{Lines-split-the-text, Listed-means-a-lin
 ghost use Rattle.judge.specs.Lasting.{Decisions-last};
 ghost use Rattle.judge.specs.Meaning.{Pairing-is-associative, Nobody-changes-nothing};
 
+pub mod any_judge;
 pub mod calendar_judge;
+pub mod choice;
 pub mod header_judge;
 pub mod judge;
 pub mod nobody;
