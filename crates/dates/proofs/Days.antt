@@ -63,30 +63,30 @@ unfolding daysBeforeMonth
 months-whole year = by (leap year)
   where
     by : (b : Bool)
-      → 0 + 31 + cond b 29 28 + 31 + 30 + 31 + 30 + 31 + 31 + 30 + 31 + 30 + 31 ≡ cond b 366 365
+        → 0 + 31 + cond b 29 28 + 31 + 30 + 31 + 30 + 31 + 31 + 30 + 31 + 30 + 31 ≡ cond b 366 365
     by true = refl
     by false = refl
 
 -- the year of a day, and the month of a day of a year
 pub year-tells : (days : ℕ) → Last daysBeforeYear days days (yearAt days)
 year-tells days =
-  let l = years-long (days + 1) in
-  let z = years-zero in
-  last-tells daysBeforeYear days days (omega arith) (omega arith)
+    let l = years-long (days + 1) in
+    let z = years-zero in
+    last-tells daysBeforeYear days days (omega arith) (omega arith)
 
 pub month-tells : (year day : ℕ) → day < yearDays year → Last (daysBeforeMonth year) 11 day (monthAt year day)
 month-tells year day h =
-  let w = months-whole year in
-  let z = months-zero year in
-  last-tells (daysBeforeMonth year) 11 day (omega arith) (omega arith)
+    let w = months-whole year in
+    let z = months-zero year in
+    last-tells (daysBeforeMonth year) 11 day (omega arith) (omega arith)
 
 pub year-is : (days n : ℕ) → daysBeforeYear n ≤ days → days < daysBeforeYear n + yearDays (1970 + n) → yearAt days ≡ n
 year-is days n e l =
-  let m = years-more n in
-  let s = years-long n in
-  last-is daysBeforeYear years-rise days days n (record { within = omega arith; early = e; late = omega arith })
+    let m = years-more n in
+    let s = years-long n in
+    last-is daysBeforeYear years-rise days days n (record { within = omega arith; early = e; late = omega arith })
 
 pub month-is : (year day n : ℕ) → n ≤ 11 → daysBeforeMonth year n ≤ day → day < daysBeforeMonth year n + monthDays year (1 + n) → monthAt year day ≡ n
 month-is year day n w e l =
-  let m = months-more year n in
-  last-is (daysBeforeMonth year) (months-rise year) 11 day n (record { within = w; early = e; late = omega arith })
+    let m = months-more year n in
+    last-is (daysBeforeMonth year) (months-rise year) 11 day n (record { within = w; early = e; late = omega arith })

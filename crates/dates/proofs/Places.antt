@@ -29,18 +29,18 @@ last-zero begin x = refl
 pub last-is : (begin : ℕ → ℕ) → Rising begin → (n x k : ℕ) → Last begin n x k → last begin n x ≡ k
 last-is begin up zero x k l = let w = l .within in last-zero begin x ∙ omega arith
 last-is begin up (suc n) x k l =
-  let w = l .within in
-  let e = l .early in
-  let t = l .late in
-  ⊎-elim
+    let w = l .within in
+    let e = l .early in
+    let t = l .late in
+    ⊎-elim
     (λ b.
-      let c = leb-true (begin (suc n)) x b in
-      let m : suc n ≤ k = ⊎-elim (λ h. absurd (let u = up (k + 1) (suc n) (omega arith) in omega arith)) (λ h. omega arith) (cases-lt (k) (suc n)) in
-      last-suc begin n x ∙ cond-true _ _ _ b ∙ omega arith)
+    let c = leb-true (begin (suc n)) x b in
+    let m : suc n ≤ k = ⊎-elim (λ h. absurd (let u = up (k + 1) (suc n) (omega arith) in omega arith)) (λ h. omega arith) (cases-lt (k) (suc n)) in
+    last-suc begin n x ∙ cond-true _ _ _ b ∙ omega arith)
     (λ b.
-      let c = leb-false (begin (suc n)) x b in
-      let m : k ≤ n = ⊎-elim (λ h. absurd (let u = ap begin h in omega arith)) (λ h. omega arith) (cases-eq k (suc n)) in
-      last-suc begin n x ∙ cond-false _ _ _ b ∙ last-is begin up n x k (record { within = m; early = e; late = t }))
+    let c = leb-false (begin (suc n)) x b in
+    let m : k ≤ n = ⊎-elim (λ h. absurd (let u = ap begin h in omega arith)) (λ h. omega arith) (cases-eq k (suc n)) in
+    last-suc begin n x ∙ cond-false _ _ _ b ∙ last-is begin up n x k (record { within = m; early = e; late = t }))
     (cases-bool (leb (begin (suc n)) x))
 
 pub last-tells : (begin : ℕ → ℕ) (n x : ℕ) → begin 0 ≤ x → x < begin (n + 1) → Last begin n x (last begin n x)
@@ -49,11 +49,11 @@ last-tells begin zero x h l = record { within = omega arith; early = h; late = l
 last-tells begin (suc n) x h l = by (leb (begin (suc n)) x) refl (last-tells begin n x h)
   where
     by : (b : Bool) → leb (begin (suc n)) x ≡ b → (x < begin (n + 1) → Last begin n x (last begin n x))
-      → Last begin (suc n) x (cond b (suc n) (last begin n x))
+        → Last begin (suc n) x (cond b (suc n) (last begin n x))
     by true e f = record { within = omega arith; early = leb-true _ _ e; late = l }
     by false e f =
-      let c = leb-false (begin (suc n)) x e in
-      let s : n + 1 ≡ suc n = omega arith in
-      let r = f (let u = ap begin s in omega arith) in
-      let w = r .within in
-      record { within = omega arith; early = r .early; late = r .late }
+        let c = leb-false (begin (suc n)) x e in
+        let s : n + 1 ≡ suc n = omega arith in
+        let r = f (let u = ap begin s in omega arith) in
+        let w = r .within in
+        record { within = omega arith; early = r .early; late = r .late }

@@ -13,7 +13,7 @@ yearDays year = cond (leap year) 366 365
 -- months are counted from 1
 abbrev pub monthDays : ℕ → ℕ → ℕ
 monthDays year month =
-  cond (eqb month 2) (cond (leap year) 29 28) (cond (eqb month 4 || (eqb month 6 || (eqb month 9 || eqb month 11))) 30 31)
+    cond (eqb month 2) (cond (leap year) 29 28) (cond (eqb month 4 || (eqb month 6 || (eqb month 9 || eqb month 11))) 30 31)
 
 -- the days from the first of 1970 to the first of the n-th year after it
 unfoldable pub daysBeforeYear : ℕ → ℕ

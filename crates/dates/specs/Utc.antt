@@ -47,7 +47,7 @@ dateOf years day rest = record {
   day = day - daysBeforeMonth (1970 + years) (monthAt (1970 + years) day) + 1;
   hour = rest / 3600;
   minute = rest / 60 % 60;
-  second = rest % 60
+  second = rest % 60;
 }
 
 abbrev pub utcOf : ℕ → Utc

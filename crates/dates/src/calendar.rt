@@ -25,13 +25,7 @@ pub fn month_days(year: u16, month: u8) -> u16
     ensures value { λ r. ⌜ r ≡ monthDays year month ⌝ }
 {
     match month {
-        2 => {
-            if leap(year) {
-                29
-            } else {
-                28
-            }
-        }
+        2 => { if leap(year) { 29 } else { 28 } }
         4 | 6 | 9 | 11 => 30,
         _ => 31,
     }

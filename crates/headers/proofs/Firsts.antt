@@ -18,8 +18,8 @@ first-goes-suc p k n e = ap (λ b. cond b (firstFailing p (k + 1) n) k) e
 
 pub first-goes : (p : ℕ → Bool) (k limit : ℕ) → k < limit → p k ≡ true → firstFailing p k (limit - k) ≡ firstFailing p (k + 1) (limit - (k + 1))
 first-goes p k limit l e =
-  let s : limit - k ≡ suc (limit - (k + 1)) = omega arith in
-  ap (firstFailing p k) s ∙ first-goes-suc p k (limit - (k + 1)) e
+    let s : limit - k ≡ suc (limit - (k + 1)) = omega arith in
+    ap (firstFailing p k) s ∙ first-goes-suc p k (limit - (k + 1)) e
 
 -- what is known of it
 pub record First (p : ℕ → Bool) (at n r : ℕ) : Type 0 where
@@ -34,12 +34,12 @@ at-or-behind at k l = ⊎-elim (λ e. inl e) (λ ne. inr (omega arith)) (cases-e
 first-by : (p : ℕ → Bool) (at n r : ℕ) (b : Bool) → p at ≡ b → First p (at + 1) n r → First p at (suc n) (cond b r at)
 first-by p at n r false e f = record { from = omega arith; within = omega arith; before = λ k l h. absurd (omega arith); fails = λ l. e }
 first-by p at n r true e f =
-  record {
-    from = omega (arith, f .from);
-    within = omega (arith, f .within);
-    before = λ k l h. ⊎-elim (λ s. ap p (sym s) ∙ e) (λ s. f .before k (omega arith) h) (at-or-behind at k l);
-    fails = λ l. f .fails (omega arith)
-  }
+    record {
+      from = omega (arith, f .from);
+      within = omega (arith, f .within);
+      before = λ k l h. ⊎-elim (λ s. ap p (sym s) ∙ e) (λ s. f .before k (omega arith) h) (at-or-behind at k l);
+      fails = λ l. f .fails (omega arith);
+    }
 
 pub first-is : (p : ℕ → Bool) (at n : ℕ) → First p at n (firstFailing p at n)
 unfolding firstFailing
@@ -49,10 +49,10 @@ first-is p at (suc n) = first-by p at n (firstFailing p (at + 1) n) (p at) refl 
 -- a weaker test fails no earlier
 pub first-later : (p q : ℕ → Bool) (n : ℕ) → ((k : ℕ) → p k ≡ true → q k ≡ true) → firstFailing p 0 n ≤ firstFailing q 0 n
 first-later p q n h =
-  let f = first-is p 0 n in
-  let g = first-is q 0 n in
-  ⊎-elim
+    let f = first-is p 0 n in
+    let g = first-is q 0 n in
+    ⊎-elim
     (λ l. let w = f .within in
-      absurd (both-ways (q (firstFailing q 0 n)) (g .fails (omega arith)) (h (firstFailing q 0 n) (f .before (firstFailing q 0 n) (omega arith) l))))
+    absurd (both-ways (q (firstFailing q 0 n)) (g .fails (omega arith)) (h (firstFailing q 0 n) (f .before (firstFailing q 0 n) (omega arith) l))))
     (λ l. l)
     (cases-lt (firstFailing q 0 n) (firstFailing p 0 n))

@@ -24,8 +24,8 @@ unlawful-odd bits h = grind (arith, tells)
 pub unlawful-zero : (bits m : ℕ) → m ≡ mantissa bits / 256 ^ (3 - exponent bits) → m ≡ 0 → lawful bits ≡ false
 unfolding lawful targetOf
 unlawful-zero bits m e z =
-  let t : mantissa bits / 256 ^ (3 - exponent bits) * 256 ^ (exponent bits - 3) ≡ 0 = ap (λ x. x * 256 ^ (exponent bits - 3)) (sym e ∙ z) ∙ omega arith in
-  grind (arith, tells)
+    let t : mantissa bits / 256 ^ (3 - exponent bits) * 256 ^ (exponent bits - 3) ≡ 0 = ap (λ x. x * 256 ^ (exponent bits - 3)) (sym e ∙ z) ∙ omega arith in
+    grind (arith, tells)
 
 pub target-is : (bits m at : ℕ) → m ≡ mantissa bits / 256 ^ (3 - exponent bits) → at ≡ exponent bits - 3 → m * 256 ^ at ≡ targetOf bits
 unfolding targetOf
@@ -36,8 +36,8 @@ unfolding lawful
 unlawful-large bits h = grind (arith, tells)
 
 pub lawful-rest : (bits m at : ℕ) → m * 256 ^ at ≡ targetOf bits
-  → bits / 2 ^ 23 % 2 ≡ 0 → (m ≡ 0 → ⊥) → m * 256 ^ at < 2 ^ 256 → lawful bits ≡ true
+    → bits / 2 ^ 23 % 2 ≡ 0 → (m ≡ 0 → ⊥) → m * 256 ^ at < 2 ^ 256 → lawful bits ≡ true
 lawful-rest bits m at is even ne small =
-  let some : 0 < m = omega arith in
-  let pos : 0 < m * 256 ^ at = mul-pos some (power-positive at) in
-  lawful-from bits (even, omega arith, omega arith)
+    let some : 0 < m = omega arith in
+    let pos : 0 < m * 256 ^ at = mul-pos some (power-positive at) in
+    lawful-from bits (even, omega arith, omega arith)

@@ -48,34 +48,34 @@ step-left (Some e) r x h = let z : _≡_ {A = ℕ} 0 1 = cc in absurd (omega ari
 
 room-from : (base size k : ℕ) → endAt base size k ≡ None → Room base size k
 room-from base size k h =
-  let a = none-left _ _ _ h in
-  let b = none-left _ _ _ (a .1) in
-  let c = none-left _ _ _ (b .1) in
-  let d = none-left _ _ _ (c .1) in
-  record { count = leb-false _ _ (b .0); height = ltb-false _ _ (c .0); whole = ltb-false _ _ (d .0) }
+    let a = none-left _ _ _ h in
+    let b = none-left _ _ _ (a .1) in
+    let c = none-left _ _ _ (b .1) in
+    let d = none-left _ _ _ (c .1) in
+    record { count = leb-false _ _ (b .0); height = ltb-false _ _ (c .0); whole = ltb-false _ _ (d .0) }
 
 ok-is : (x y : List ℕ) → _≡_ {A = Result (List ℕ) Ending} (Ok x) (Ok y) → y ≡ x
 ok-is x y e = cc
 
 passes-from : (most : ℕ) (before header hash : List ℕ) → tested most before header ≡ Ok hash → Passes most before header hash
 passes-from most before header hash h =
-  let a = ok-left _ _ _ _ h in
-  let b = ok-left _ _ _ _ (a .1) in
-  let c = ok-left _ _ _ _ (b .1) in
-  let d = ok-left _ _ _ _ (c .1) in
-  record {
-    linked = not-false _ (a .0);
-    lawful = not-false _ (b .0);
-    under = leb-true _ _ (not-false _ (c .0));
-    worked = leb-true _ _ (not-false _ (d .0));
-    hash = ok-is _ _ (d .1)
-  }
+    let a = ok-left _ _ _ _ h in
+    let b = ok-left _ _ _ _ (a .1) in
+    let c = ok-left _ _ _ _ (b .1) in
+    let d = ok-left _ _ _ _ (c .1) in
+    record {
+      linked = not-false _ (a .0);
+      lawful = not-false _ (b .0);
+      under = leb-true _ _ (not-false _ (c .0));
+      worked = leb-true _ _ (not-false _ (d .0));
+      hash = ok-is _ _ (d .1);
+    }
 
 pub room-of : (base most : ℕ) (before bytes : List ℕ) (k : ℕ) (hash : List ℕ) → stepAt base most before bytes k ≡ Ok hash → Room base (length bytes) k
 room-of base most before bytes k hash e = room-from base (length bytes) k (step-left _ _ _ e .0)
 
 pub passes-of : (base most : ℕ) (before bytes : List ℕ) (k : ℕ) (hash : List ℕ)
-  → stepAt base most before bytes k ≡ Ok hash → Passes most before (headerAt bytes k) hash
+    → stepAt base most before bytes k ≡ Ok hash → Passes most before (headerAt bytes k) hash
 passes-of base most before bytes k hash e = passes-from most before (headerAt bytes k) hash (step-left _ _ _ e .1)
 
 -- one header further
@@ -84,17 +84,17 @@ unfolding hashBefore
 before-more previous bytes k = ap (hashBefore previous bytes) (add-one k)
 
 pub covers-goes : (base : ℕ) (previous : List ℕ) (most : ℕ) (bytes : List ℕ) (k : ℕ) (hash : List ℕ)
-  → placeIn base previous most bytes k ≡ Ok hash → k < 65536
-  → firstFailing (passes base previous most bytes) k (65536 - k) ≡ covers base previous most bytes
-  → firstFailing (passes base previous most bytes) (k + 1) (65536 - (k + 1)) ≡ covers base previous most bytes
+    → placeIn base previous most bytes k ≡ Ok hash → k < 65536
+    → firstFailing (passes base previous most bytes) k (65536 - k) ≡ covers base previous most bytes
+    → firstFailing (passes base previous most bytes) (k + 1) (65536 - (k + 1)) ≡ covers base previous most bytes
 unfolding passes
 covers-goes base previous most bytes k hash e l h = sym (first-goes (passes base previous most bytes) k 65536 l (ap goesOn e)) ∙ h
 
 pub covers-stops : (base : ℕ) (previous : List ℕ) (most : ℕ) (bytes : List ℕ) (k : ℕ) (ending : Ending)
-  → placeIn base previous most bytes k ≡ Err ending
-  → firstFailing (passes base previous most bytes) k (65536 - k) ≡ covers base previous most bytes
-  → run k ending ≡ walked base previous most bytes
+    → placeIn base previous most bytes k ≡ Err ending
+    → firstFailing (passes base previous most bytes) k (65536 - k) ≡ covers base previous most bytes
+    → run k ending ≡ walked base previous most bytes
 unfolding passes walked
 covers-stops base previous most bytes k ending e h =
-  let s : k ≡ covers base previous most bytes = sym (first-stops (passes base previous most bytes) k (65536 - k) (ap goesOn e)) ∙ h in
-  ap (run k) (sym (ap reason e)) ∙ ap (λ n. run n (reason (placeIn base previous most bytes n))) s
+    let s : k ≡ covers base previous most bytes = sym (first-stops (passes base previous most bytes) k (65536 - k) (ap goesOn e)) ∙ h in
+    ap (run k) (sym (ap reason e)) ∙ ap (λ n. run n (reason (placeIn base previous most bytes n))) s

@@ -14,8 +14,8 @@ same-tells [] [] e = refl
 same-tells [] (y ∷ ys) e = absurd (false≢true e)
 same-tells (x ∷ xs) [] e = absurd (false≢true e)
 same-tells (x ∷ xs) (y ∷ ys) e =
-  let p = and-parts (eqb x y) (same xs ys) e in
-  ap (λ z. z ∷ xs) (eqb-true x y (p .0)) ∙ ap (λ zs. y ∷ zs) (same-tells xs ys (p .1))
+    let p = and-parts (eqb x y) (same xs ys) e in
+    ap (λ z. z ∷ xs) (eqb-true x y (p .0)) ∙ ap (λ zs. y ∷ zs) (same-tells xs ys (p .1))
 
 pub same-itself : (xs : List ℕ) → same xs xs ≡ true
 unfolding same

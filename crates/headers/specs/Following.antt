@@ -41,7 +41,7 @@ run covered ending = record { covered = covered; ending = ending }
 
 unfoldable pub walked : ℕ → List ℕ → ℕ → List ℕ → Run
 walked base previous most bytes =
-  run (covers base previous most bytes) (reason (placeIn base previous most bytes (covers base previous most bytes)))
+    run (covers base previous most bytes) (reason (placeIn base previous most bytes (covers base previous most bytes)))
 
 -- an unlawful ceiling covers nothing
 abbrev pub runOf : ℕ → List ℕ → ℕ → List ℕ → Run

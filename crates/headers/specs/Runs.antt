@@ -31,8 +31,8 @@ pub record IsLongest (base : ℕ) (previous : List ℕ) (ceiling : ℕ) (bytes :
 -- what is covered is the longest run
 abbrev pub Covers-the-longest-run : Type 0
 Covers-the-longest-run =
-  (base : ℕ) (previous : List ℕ) (ceiling : ℕ) (bytes : List ℕ)
-  → base ≤ heightLimit → IsLongest base previous ceiling bytes (coveredBy base previous ceiling bytes)
+    (base : ℕ) (previous : List ℕ) (ceiling : ℕ) (bytes : List ℕ)
+    → base ≤ heightLimit → IsLongest base previous ceiling bytes (coveredBy base previous ceiling bytes)
 
 -- more bytes behind never make it shorter, and change none of its headers
 pub record Extends (base : ℕ) (previous : List ℕ) (ceiling : ℕ) (bytes more : List ℕ) : Type 0 where
@@ -41,4 +41,4 @@ pub record Extends (base : ℕ) (previous : List ℕ) (ceiling : ℕ) (bytes mor
 
 abbrev pub More-bytes-extend-the-run : Type 0
 More-bytes-extend-the-run =
-  (base : ℕ) (previous : List ℕ) (ceiling : ℕ) (bytes more : List ℕ) → Extends base previous ceiling bytes more
+    (base : ℕ) (previous : List ℕ) (ceiling : ℕ) (bytes more : List ℕ) → Extends base previous ceiling bytes more

@@ -24,19 +24,19 @@ heightLimit = 4294967295
 -- no header of a run stands at place k, by the number of the bytes alone
 abbrev pub endAt : ℕ → ℕ → ℕ → Option Ending
 endAt base size k =
-  cond (eqb size (80 * k)) (Some Complete)
-  (cond (leb countLimit k) (Some Count)
-  (cond (ltb heightLimit (base + k)) (Some Height)
-  (cond (ltb size (80 * k + 80)) (Some Cut) None)))
+    cond (eqb size (80 * k)) (Some Complete)
+    (cond (leb countLimit k) (Some Count)
+    (cond (ltb heightLimit (base + k)) (Some Height)
+    (cond (ltb size (80 * k + 80)) (Some Cut) None)))
 
 -- a header that has to name the hash before, under the greatest target: its hash, or what is wrong with it
 abbrev pub tested : ℕ → List ℕ → List ℕ → Result (List ℕ) Ending
 tested most before header =
-  cond (not (same (previousOf header) before)) (Err Link)
-  (cond (not (lawful (bitsOf header))) (Err Bits)
-  (cond (not (leb (targetOf (bitsOf header)) most)) (Err Target)
-  (cond (not (leb (little (hashOf header)) (targetOf (bitsOf header)))) (Err Work)
-  (Ok (hashOf header)))))
+    cond (not (same (previousOf header) before)) (Err Link)
+    (cond (not (lawful (bitsOf header))) (Err Bits)
+    (cond (not (leb (targetOf (bitsOf header)) most)) (Err Target)
+    (cond (not (leb (little (hashOf header)) (targetOf (bitsOf header)))) (Err Work)
+    (Ok (hashOf header)))))
 
 abbrev pub stepOr : Option Ending → Result (List ℕ) Ending → Result (List ℕ) Ending
 stepOr None r = r

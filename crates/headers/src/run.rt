@@ -23,7 +23,10 @@ pub fn follow(base: u32, previous: [u8; 32], ceiling: u32, bytes: &[u8]) -> Run
 {
     match target(ceiling) {
         Some(most) => walk(base, previous, &most, bytes),
-        None => Run { covered: 0, ending: Ending::Ceiling },
+        None => Run {
+            covered: 0,
+            ending: Ending::Ceiling,
+        },
     }
 }
 

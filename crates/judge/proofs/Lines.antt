@@ -57,12 +57,12 @@ found-is line [] address = ap (λ z. same z address) (sym (append-nil line)) ∙
 found-is line (b ∷ rest) address = by (eqb b 0x0a) (found-is [] rest address) (found-is (line ++ b ∷ []) rest address)
   where
     by : (t : Bool) → found [] rest address ≡ someLine (onto [] (lines rest)) address
-      → found (line ++ b ∷ []) rest address ≡ someLine (onto (line ++ b ∷ []) (lines rest)) address
-      → cond t (same line address || found [] rest address) (found (line ++ b ∷ []) rest address)
+        → found (line ++ b ∷ []) rest address ≡ someLine (onto (line ++ b ∷ []) (lines rest)) address
+        → cond t (same line address || found [] rest address) (found (line ++ b ∷ []) rest address)
         ≡ someLine (onto line (cond t ([] ∷ lines rest) (longer b (lines rest)))) address
     by true p q =
-      ap (λ z. same z address || found [] rest address) (sym (append-nil line))
-      ∙ ap (λ z. same (line ++ []) address || z) (p ∙ ap (λ ls. someLine ls address) (onto-nothing (lines rest)))
+        ap (λ z. same z address || found [] rest address) (sym (append-nil line))
+        ∙ ap (λ z. same (line ++ []) address || z) (p ∙ ap (λ ls. someLine ls address) (onto-nothing (lines rest)))
     by false p q = q ∙ ap (λ ls. someLine ls address) (sym (onto-longer line b (lines rest) (lines-some rest)))
 
 pub found-all : (text address : List ℕ) → found [] text address ≡ someLine (lines text) address
@@ -70,12 +70,12 @@ found-all text address = found-is [] text address ∙ ap (λ ls. someLine ls add
 
 -- one byte further, at a line's end and inside a line
 found-step : (line : List ℕ) (b : ℕ) (rest address : List ℕ)
-  → found line (b ∷ rest) address ≡ cond (eqb b 0x0a) (same line address || found [] rest address) (found (line ++ b ∷ []) rest address)
+    → found line (b ∷ rest) address ≡ cond (eqb b 0x0a) (same line address || found [] rest address) (found (line ++ b ∷ []) rest address)
 unfolding found
 found-step line b rest address = refl
 
 found-at : (line text address : List ℕ) (i : ℕ) → i < length text
-  → found line (drop i text) address
+    → found line (drop i text) address
     ≡ cond (eqb (getD text i 0) 0x0a) (same line address || found [] (drop (i + 1) text) address) (found (line ++ getD text i 0 ∷ []) (drop (i + 1) text) address)
 found-at line text address i l = ap (λ r. found line r address) (drop-more text i 0 l) ∙ found-step line (getD text i 0) (drop (i + 1) text) address
 
@@ -84,45 +84,45 @@ unfolding found
 found-end line text address i l = ap (λ r. found line r address) (drop-all i text l)
 
 line-more : (text : List ℕ) (start i : ℕ) → start ≤ i → i < length text
-  → take (i - start) (drop start text) ++ getD text i 0 ∷ [] ≡ take (i + 1 - start) (drop start text)
+    → take (i - start) (drop start text) ++ getD text i 0 ∷ [] ≡ take (i + 1 - start) (drop start text)
 line-more text start i l h =
-  let n : i - start < length (drop start text) = simp length-drop (omega arith) in
-  let e : i + 1 - start ≡ i - start + 1 = omega arith in
-  let g : getD (drop start text) (i - start) 0 ≡ getD text i 0 = getD-drop start text (i - start) 0 ∙ ap (λ k. getD text k 0) (omega arith) in
-  ap (λ z. take (i - start) (drop start text) ++ z ∷ []) (sym g) ∙ sym (take-more (drop start text) (i - start) 0 n) ∙ ap (λ k. take k (drop start text)) (sym e)
+    let n : i - start < length (drop start text) = simp length-drop (omega arith) in
+    let e : i + 1 - start ≡ i - start + 1 = omega arith in
+    let g : getD (drop start text) (i - start) 0 ≡ getD text i 0 = getD-drop start text (i - start) 0 ∙ ap (λ k. getD text k 0) (omega arith) in
+    ap (λ z. take (i - start) (drop start text) ++ z ∷ []) (sym g) ∙ sym (take-more (drop start text) (i - start) 0 n) ∙ ap (λ k. take k (drop start text)) (sym e)
 
 -- the three ways of the search at a byte: it ends a line that is the address, one that is not, or none
 pub at-found : (line text address : List ℕ) (i : ℕ) → i < length text → getD text i 0 ≡ 0x0a → same line address ≡ true
-  → found line (drop i text) address ≡ true
+    → found line (drop i text) address ≡ true
 at-found line text address i l e s = found-at line text address i l ∙ cond-true _ _ _ (eq-eqb _ _ e) ∙ or-left _ _ s
 
 pub at-end : (line text address : List ℕ) (i : ℕ) → i < length text → getD text i 0 ≡ 0x0a → same line address ≡ false
-  → found line (drop i text) address ≡ found (take (i + 1 - (i + 1)) (drop (i + 1) text)) (drop (i + 1) text) address
+    → found line (drop i text) address ≡ found (take (i + 1 - (i + 1)) (drop (i + 1) text)) (drop (i + 1) text) address
 at-end line text address i l e s =
-  let z : i + 1 - (i + 1) ≡ 0 = omega arith in
-  found-at line text address i l ∙ cond-true _ _ _ (eq-eqb _ _ e)
-  ∙ ap (λ b. b || found [] (drop (i + 1) text) address) s
-  ∙ ap (λ n. found (take n (drop (i + 1) text)) (drop (i + 1) text) address) (sym z)
+    let z : i + 1 - (i + 1) ≡ 0 = omega arith in
+    found-at line text address i l ∙ cond-true _ _ _ (eq-eqb _ _ e)
+    ∙ ap (λ b. b || found [] (drop (i + 1) text) address) s
+    ∙ ap (λ n. found (take n (drop (i + 1) text)) (drop (i + 1) text) address) (sym z)
 
 pub at-none : (text address : List ℕ) (start i : ℕ) → start ≤ i → i < length text → (getD text i 0 ≡ 0x0a → ⊥)
-  → found (take (i - start) (drop start text)) (drop i text) address
+    → found (take (i - start) (drop start text)) (drop i text) address
     ≡ found (take (i + 1 - start) (drop start text)) (drop (i + 1) text) address
 at-none text address start i l h e =
-  found-at (take (i - start) (drop start text)) text address i h ∙ cond-false _ _ _ (ne-eqb _ _ e)
-  ∙ ap (λ z. found z (drop (i + 1) text) address) (line-more text start i l h)
+    found-at (take (i - start) (drop start text)) text address i h ∙ cond-false _ _ _ (ne-eqb _ _ e)
+    ∙ ap (λ z. found z (drop (i + 1) text) address) (line-more text start i l h)
 
 pub at-last : (text address : List ℕ) (start i : ℕ) → i ≡ length text
-  → found (take (i - start) (drop start text)) (drop i text) address ≡ same (take (length text - start) (drop start text)) address
+    → found (take (i - start) (drop start text)) (drop i text) address ≡ same (take (length text - start) (drop start text)) address
 at-last text address start i e =
-  found-end (take (i - start) (drop start text)) text address i (omega arith)
-  ∙ ap (λ n. same (take (n - start) (drop start text)) address) e
+    found-end (take (i - start) (drop start text)) text address i (omega arith)
+    ∙ ap (λ n. same (take (n - start) (drop start text)) address) e
 
 -- an address that some line equals
 some-tells : (ls : List (List ℕ)) (address : List ℕ) → someLine ls address ≡ true → (k : ℕ) × (k < length ls) × (getD ls k [] ≡ address)
 unfolding someLine
 some-tells [] address e = absurd (false≢true e)
 some-tells (l ∷ ls) address e =
-  ⊎-elim
+    ⊎-elim
     (λ s. (0, omega arith, same-tells l address s))
     (λ s. let r = some-tells ls address s in (suc (r .0), omega (arith, r .1), r .2))
     (or-cases (same l address) (someLine ls address) e)
@@ -141,11 +141,12 @@ empty-not : (address : List ℕ) → not (empty address) ≡ true → address �
 empty-not address e z = false≢true (sym (ap (λ a. not (empty a)) z) ∙ e)
 
 pub listed-means-a-line : Listed-means-a-line
-listed-means-a-line text address =
-  ( (λ e. let p = and-parts (not (empty address)) (someLine (lines text) address) e in
+listed-means-a-line text address = (
+  (λ e. let p = and-parts (not (empty address)) (someLine (lines text) address) e in
       record { some = empty-not address (p .0); line = some-tells (lines text) address (p .1) }),
-    (λ l. and-from (not (empty address)) (someLine (lines text) address) (not-empty address (l .some))
-      (some-from (lines text) address (l .line .0) (l .line .1) (l .line .2))) )
+  (λ l. and-from (not (empty address)) (someLine (lines text) address) (not-empty address (l .some))
+      (some-from (lines text) address (l .line .0) (l .line .1) (l .line .2))),
+)
 
 -- the lines joined again
 joined-longer : (b : ℕ) (ls : List (List ℕ)) → Some ls → joined (longer b ls) ≡ b ∷ joined ls
@@ -165,7 +166,7 @@ joined-lines [] = refl
 joined-lines (b ∷ text) = by (eqb b 0x0a) refl (joined-lines text)
   where
     by : (t : Bool) → eqb b 0x0a ≡ t → joined (lines text) ≡ text
-      → joined (cond t ([] ∷ lines text) (longer b (lines text))) ≡ b ∷ text
+        → joined (cond t ([] ∷ lines text) (longer b (lines text))) ≡ b ∷ text
     by true e h = joined-empty (lines text) (lines-some text) ∙ ap (λ z. 0x0a ∷ z) h ∙ ap (λ z. z ∷ text) (sym (eqb-true b 0x0a e))
     by false e h = joined-longer b (lines text) (lines-some text) ∙ ap (λ z. b ∷ z) h
 

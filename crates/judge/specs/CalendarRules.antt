@@ -12,5 +12,5 @@ abbrev pub calendarMeaning : List ℕ → Meaning
 calendarMeaning text = record {
   owns = λ tag. same tag pendingTag;
   rules = λ tag payload message.
-    ruledBy (λ address. cond (listed text address) waiting rejected) (addressAt payload 0 (length payload))
+      ruledBy (λ address. cond (listed text address) waiting rejected) (addressAt payload 0 (length payload));
 }

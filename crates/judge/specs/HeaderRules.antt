@@ -12,7 +12,7 @@ use Rattle.judge.specs.Meaning.{Ruling, confirmed, rejected, waiting, ruledBy,
 -- a message against the header of its height: it waits where the height is not covered
 abbrev pub ruledAt : ℕ → ℕ → List ℕ → List ℕ → ℕ → Ruling
 ruledAt base covered bytes message height =
-  cond (leb base height && ltb (height - base) covered)
+    cond (leb base height && ltb (height - base) covered)
     (cond (same message (rootOf (headerAt bytes (height - base)))) (confirmed (timeOf (headerAt bytes (height - base)))) rejected)
     waiting
 
@@ -20,7 +20,7 @@ ruledAt base covered bytes message height =
 abbrev pub byHeaders : ℕ → ℕ → List ℕ → Meaning
 byHeaders base covered bytes = record {
   owns = λ tag. same tag bitcoinTag;
-  rules = λ tag payload message. ruledBy (ruledAt base covered bytes message) (heightAt payload 0 (length payload))
+  rules = λ tag payload message. ruledBy (ruledAt base covered bytes message) (heightAt payload 0 (length payload));
 }
 
 -- the longest run is covered

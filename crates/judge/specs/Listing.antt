@@ -47,6 +47,6 @@ joined (line ∷ (next ∷ rest)) = line ++ (0x0a ∷ joined (next ∷ rest))
 
 abbrev pub Lines-split-the-text : Type 0
 Lines-split-the-text =
-  (text : List ℕ)
-  → (joined (lines text) ≡ text)
-  × ((k i : ℕ) → k < length (lines text) → i < length (getD (lines text) k []) → getD (getD (lines text) k []) i 0 ≡ 0x0a → ⊥)
+    (text : List ℕ)
+    → (joined (lines text) ≡ text)
+    × ((k i : ℕ) → k < length (lines text) → i < length (getD (lines text) k []) → getD (getD (lines text) k []) i 0 ≡ 0x0a → ⊥)

@@ -40,7 +40,7 @@ nobody = record { owns = λ tag. false; rules = λ tag payload message. rejected
 abbrev pub paired : Meaning → Meaning → Meaning
 paired a b = record {
   owns = λ tag. a .owns tag || b .owns tag;
-  rules = λ tag payload message. cond (a .owns tag) (a .rules tag payload message) (b .rules tag payload message)
+  rules = λ tag payload message. cond (a .owns tag) (a .rules tag payload message) (b .rules tag payload message);
 }
 
 -- two judges that own the same tags and give the same verdicts
@@ -54,4 +54,4 @@ Pairing-is-associative = (a b c : Meaning) → Alike (paired (paired a b) c) (pa
 -- a judge that owns no tag, whatever its rulings, changes nothing before or behind another
 abbrev pub Nobody-changes-nothing : Type 0
 Nobody-changes-nothing =
-  (a silent : Meaning) → ((tag : List ℕ) → silent .owns tag ≡ false) → Alike (paired silent a) a × Alike (paired a silent) a
+    (a silent : Meaning) → ((tag : List ℕ) → silent .owns tag ≡ false) → Alike (paired silent a) a × Alike (paired a silent) a

@@ -9,4 +9,4 @@ use Rattle.format.specs.Attestations.{same}
 unfoldable pub found : List ℕ → List ℕ → List ℕ → Bool
 found line [] address = same line address
 found line (b ∷ rest) address =
-  cond (eqb b 0x0a) (same line address || found [] rest address) (found (line ++ b ∷ []) rest address)
+    cond (eqb b 0x0a) (same line address || found [] rest address) (found (line ++ b ∷ []) rest address)

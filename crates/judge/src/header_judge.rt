@@ -47,7 +47,9 @@ impl<'a> HeaderJudge<'a> {
     fn at(&self, height: u32, message: &[u8]) -> Verdict
         ensures { λ r. ⌜ r ≡ spoken (ruledAt (now (self .entry) .base) (length (now (now (self .entry) .covered)) / 80) (now (now (self .entry) .covered)) (now (message .entry)) height) ⌝ }
     {
-        if height < self.base || (height - self.base) as usize >= self.covered.len() / header::SIZE {
+        if height < self.base
+            || (height - self.base) as usize >= self.covered.len() / header::SIZE
+        {
             return Verdict::Waiting;
         }
         let header = header::nth(self.covered, (height - self.base) as usize);

@@ -7,7 +7,13 @@ use std::error::AnyError;
 use std::fs;
 use std::io;
 
-fn print_pending(rt: &LibcRuntime, judge: &CalendarJudge, group: &str, name: &str, payload: &[u8]) -> io::Result<()> {
+fn print_pending(
+    rt: &LibcRuntime,
+    judge: &CalendarJudge,
+    group: &str,
+    name: &str,
+    payload: &[u8],
+) -> io::Result<()> {
     print_asked(rt, judge, group, name, &PENDING, payload, b"message")
 }
 
@@ -18,7 +24,13 @@ fn print_text(rt: &LibcRuntime, name: &str, path: &str) -> Result<(), AnyError> 
     print_pending(rt, &judge, name, "last", b"\x15https://c.example.org")?;
     print_pending(rt, &judge, name, "beginning", b"\x14https://a.example.or")?;
     print_pending(rt, &judge, name, "longer", b"\x16https://a.example.org/")?;
-    print_pending(rt, &judge, name, "behind-return", b"\x17https://b.example.org/x")?;
+    print_pending(
+        rt,
+        &judge,
+        name,
+        "behind-return",
+        b"\x17https://b.example.org/x",
+    )?;
     print_pending(rt, &judge, name, "none", b"\x15https://d.example.org")?;
     print_pending(rt, &judge, name, "empty", b"\x00")?;
     print_pending(rt, &judge, name, "spaces", b"\x0ano address")?;

@@ -15,6 +15,7 @@ use std::io;
 
 // The chains were made to stand on this hash, under this ceiling.
 pub const PREVIOUS: [u8; 32] = [0x5a; 32];
+
 pub const CEILING: u32 = 0x207fffff;
 
 // Bitcoin's first header stands on nothing.
@@ -65,15 +66,35 @@ fn root(bytes: &[u8], k: usize, turned: bool) -> [u8; 32] {
     root
 }
 
-fn print_height(rt: &LibcRuntime, name: &str, judge: &HeaderJudge, bytes: &[u8], height: u32, k: usize) -> io::Result<()> {
+fn print_height(
+    rt: &LibcRuntime,
+    name: &str,
+    judge: &HeaderJudge,
+    bytes: &[u8],
+    height: u32,
+    k: usize,
+) -> io::Result<()> {
     print!(rt, "{name} height {height}: ")?;
-    print_verdict(rt, judge.verdict(&BITCOIN, &padded(height), &root(bytes, k, false)))?;
+    print_verdict(
+        rt,
+        judge.verdict(&BITCOIN, &padded(height), &root(bytes, k, false)),
+    )?;
     print!(rt, "{name} height {height} turned: ")?;
-    print_verdict(rt, judge.verdict(&BITCOIN, &padded(height), &root(bytes, k, true)))
+    print_verdict(
+        rt,
+        judge.verdict(&BITCOIN, &padded(height), &root(bytes, k, true)),
+    )
 }
 
 // The run, and every height from the one before it to the one behind it.
-fn print_chain(rt: &LibcRuntime, name: &str, base: u32, previous: [u8; 32], ceiling: u32, bytes: &[u8]) -> io::Result<()> {
+fn print_chain(
+    rt: &LibcRuntime,
+    name: &str,
+    base: u32,
+    previous: [u8; 32],
+    ceiling: u32,
+    bytes: &[u8],
+) -> io::Result<()> {
     let judge = HeaderJudge::new(base, previous, ceiling, bytes);
     print_run(rt, name, &judge)?;
     if base > 0 {
@@ -141,13 +162,53 @@ pub fn print_payloads(rt: &LibcRuntime) -> Result<(), AnyError> {
     let judge = HeaderJudge::new(0, PREVIOUS, CEILING, &bytes);
     let root = root(&bytes, 0, false);
     print_asked(rt, &judge, "payload", "short", &BITCOIN, &[0], &root)?;
-    print_asked(rt, &judge, "payload", "padded", &BITCOIN, &[0x80, 0x00], &root)?;
-    print_asked(rt, &judge, "payload", "greatest", &BITCOIN, &[0xff, 0xff, 0xff, 0xff, 0x0f], &root)?;
+    print_asked(
+        rt,
+        &judge,
+        "payload",
+        "padded",
+        &BITCOIN,
+        &[0x80, 0x00],
+        &root,
+    )?;
+    print_asked(
+        rt,
+        &judge,
+        "payload",
+        "greatest",
+        &BITCOIN,
+        &[0xff, 0xff, 0xff, 0xff, 0x0f],
+        &root,
+    )?;
     print_asked(rt, &judge, "payload", "none", &BITCOIN, &[], &root)?;
     print_asked(rt, &judge, "payload", "cut", &BITCOIN, &[0x80], &root)?;
-    print_asked(rt, &judge, "payload", "trailing", &BITCOIN, &[0x00, 0x00], &root)?;
-    print_asked(rt, &judge, "payload", "too-large", &BITCOIN, &[0xff, 0xff, 0xff, 0xff, 0x1f], &root)?;
-    print_asked(rt, &judge, "payload", "too-long", &BITCOIN, &[0x80, 0x80, 0x80, 0x80, 0x80, 0x00], &root)?;
+    print_asked(
+        rt,
+        &judge,
+        "payload",
+        "trailing",
+        &BITCOIN,
+        &[0x00, 0x00],
+        &root,
+    )?;
+    print_asked(
+        rt,
+        &judge,
+        "payload",
+        "too-large",
+        &BITCOIN,
+        &[0xff, 0xff, 0xff, 0xff, 0x1f],
+        &root,
+    )?;
+    print_asked(
+        rt,
+        &judge,
+        "payload",
+        "too-long",
+        &BITCOIN,
+        &[0x80, 0x80, 0x80, 0x80, 0x80, 0x00],
+        &root,
+    )?;
     Ok(())
 }
 

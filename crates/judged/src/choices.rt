@@ -18,8 +18,18 @@ use std::error::AnyError;
 use std::fs;
 use std::io;
 
-fn print_tag<J: Judge>(rt: &LibcRuntime, judge: &J, tag: &[u8], payload: &[u8], message: &[u8]) -> io::Result<()> {
-    let owned = if judge.owns(tag) { "owned" } else { "not owned" };
+fn print_tag<J: Judge>(
+    rt: &LibcRuntime,
+    judge: &J,
+    tag: &[u8],
+    payload: &[u8],
+    message: &[u8],
+) -> io::Result<()> {
+    let owned = if judge.owns(tag) {
+        "owned"
+    } else {
+        "not owned"
+    };
     print!(rt, "{owned}, ")?;
     print_verdict(rt, judge.verdict(tag, payload, message))
 }
@@ -37,7 +47,12 @@ fn print_chosen(rt: &LibcRuntime, name: &str, judge: AnyJudge, root: &[u8]) -> i
     print_judge(rt, name, &judge, root)
 }
 
-fn print_judges<'x>(rt: &LibcRuntime, first: HeaderJudge<'x>, second: CalendarJudge<'x>, root: &[u8]) -> io::Result<()> {
+fn print_judges<'x>(
+    rt: &LibcRuntime,
+    first: HeaderJudge<'x>,
+    second: CalendarJudge<'x>,
+    root: &[u8],
+) -> io::Result<()> {
     print_chosen(rt, "nobody", AnyJudge::Nobody, root)?;
     print_chosen(rt, "headers", AnyJudge::Headers(first), root)?;
     print_chosen(rt, "calendars", AnyJudge::Calendars(second), root)?;
@@ -50,7 +65,12 @@ pub fn print_choices(rt: &LibcRuntime) -> Result<(), AnyError> {
     let text = fs::read(rt, "calendars.txt")?;
     let headers: &[u8] = &bytes;
     if headers.len() >= 80 {
-        print_judges(rt, HeaderJudge::new(0, PREVIOUS, CEILING, headers), CalendarJudge::new(&text), &headers[36..68])?;
+        print_judges(
+            rt,
+            HeaderJudge::new(0, PREVIOUS, CEILING, headers),
+            CalendarJudge::new(&text),
+            &headers[36..68],
+        )?;
     }
     Ok(())
 }

@@ -11,23 +11,23 @@ loop-before-holds c = (sym years-zero, omega arith, omega arith)
 
 pub loop-before-again : need.loop-before-again
 loop-before-again c =
-  let m = years-more (c .loop-before .passed) in
-  let v = c .year-days-length .ensures .value in
-  let i = c .loop-before .inv .0 in
-  (omega arith, omega arith, omega arith)
+    let m = years-more (c .loop-before .passed) in
+    let v = c .year-days-length .ensures .value in
+    let i = c .loop-before .inv .0 in
+    (omega arith, omega arith, omega arith)
 
 pub returns-then-days-before : need.returns-then-days-before
 returns-then-days-before c =
-  let n = c .loop-before .passed in
-  let days = c .args .days in
-  let i = c .loop-before .inv .0 in
-  let v = c .year-days-length .ensures .value in
-  let l : days < daysBeforeYear n + yearDays (1970 + n) = omega arith in
-  let y : yearAt days ≡ n = year-is days n (omega arith) l in
-  record {
-    bound = omega arith;
-    early = omega arith;
-    late = omega arith;
-    value = sym y;
-    before = i ∙ ap daysBeforeYear (sym y)
-  }
+    let n = c .loop-before .passed in
+    let days = c .args .days in
+    let i = c .loop-before .inv .0 in
+    let v = c .year-days-length .ensures .value in
+    let l : days < daysBeforeYear n + yearDays (1970 + n) = omega arith in
+    let y : yearAt days ≡ n = year-is days n (omega arith) l in
+    record {
+      bound = omega arith;
+      early = omega arith;
+      late = omega arith;
+      value = sym y;
+      before = i ∙ ap daysBeforeYear (sym y);
+    }

@@ -8,10 +8,10 @@ use Rattle.headers.proofs.run.walk.Given as given
 
 abbrev pub Inv-loop-hash : given.InvT-loop-hash
 Inv-loop-hash l =
-  (l .k ≤ 65536)
-  × (length (l .before) ≡ 32)
-  × (l .before ≡ hashBefore (l .entry .before) (l .bytes) (l .k))
-  × (firstFailing (passes (l .base) (l .entry .before) (little (l .most)) (l .bytes)) (l .k) (65536 - l .k)
+    (l .k ≤ 65536)
+    × (length (l .before) ≡ 32)
+    × (l .before ≡ hashBefore (l .entry .before) (l .bytes) (l .k))
+    × (firstFailing (passes (l .base) (l .entry .before) (little (l .most)) (l .bytes)) (l .k) (65536 - l .k)
     ≡ covers (l .base) (l .entry .before) (little (l .most)) (l .bytes))
 
 abbrev pub μ-loop-hash : given.MeasureT-loop-hash

@@ -7,5 +7,5 @@ use Rattle.judge.proofs.calendar_judge.has_line.Given as given
 
 abbrev pub Inv-loop-i : given.InvT-loop-i
 Inv-loop-i l =
-  (l .start ≤ l .i)
-  × (found (take (l .i - l .start) (drop (l .start) (l .text))) (drop (l .i) (l .text)) (l .address) ≡ found [] (l .text) (l .address))
+    (l .start ≤ l .i)
+    × (found (take (l .i - l .start) (drop (l .start) (l .text))) (drop (l .i) (l .text)) (l .address) ≡ found [] (l .text) (l .address))

@@ -11,15 +11,15 @@ use Rattle.judge.proofs.header_judge.within.Needs as need
 pub returns : need.returns
 unfolding coveredBy
 returns c =
-  let base = c .args .base in
-  let previous = c .args .previous in
-  let ceiling = c .args .ceiling in
-  let bytes = c .args .bytes .now in
-  let e : c .args .run .covered ≡ coveredBy base previous ceiling bytes = ap (λ r. r .covered) (c .pre) in
-  let n = covered-count base previous ceiling bytes in
-  let w = covered-within base previous ceiling bytes in
-  record {
-    count = omega arith;
-    whole = omega arith;
-    means = ap (λ n. standing base (take (80 * n) bytes)) e ∙ stands base previous ceiling bytes
-  }
+    let base = c .args .base in
+    let previous = c .args .previous in
+    let ceiling = c .args .ceiling in
+    let bytes = c .args .bytes .now in
+    let e : c .args .run .covered ≡ coveredBy base previous ceiling bytes = ap (λ r. r .covered) (c .pre) in
+    let n = covered-count base previous ceiling bytes in
+    let w = covered-within base previous ceiling bytes in
+    record {
+      count = omega arith;
+      whole = omega arith;
+      means = ap (λ n. standing base (take (80 * n) bytes)) e ∙ stands base previous ceiling bytes;
+    }
