@@ -59,6 +59,19 @@ messageLine depth message = indent depth ++ (codes "  message " ++ hexOf message
 abbrev pub rootLine : ℕ → List ℕ → List ℕ
 rootLine depth message = indent depth ++ (codes "  root " ++ hexOf (reverse message))
 
+-- a count beside its limit
+abbrev pub ofLimit : ℕ → ℕ → List ℕ
+ofLimit count limit = decimal count ++ (codes " of " ++ decimal limit)
+
+-- the size of a set of claims: operations, attestations and bytes
+abbrev pub sizeLine : ℕ → ℕ → ℕ → List ℕ
+sizeLine operations attestations bytes =
+    codes "size: ops " ++ (ofLimit operations 1024 ++ (codes ", atts " ++ (ofLimit attestations 128 ++ (codes ", bytes " ++ ofLimit bytes 32768))))
+
+-- the length of the canonical file
+abbrev pub canonicalLine : ℕ → List ℕ
+canonicalLine n = codes "canonical " ++ (decimal n ++ codes " bytes")
+
 abbrev pub countsLine : Counts → List ℕ
 countsLine c =
     codes "claims: pending " ++ (decimal (c .pending) ++ (codes ", bitcoin " ++ (decimal (c .bitcoin) ++ (codes ", unknown " ++ decimal (c .unknown)))))

@@ -12,7 +12,7 @@ ghost use Rattle.proof.specs.Pieces.{piece, attested};
 ghost use Rattle.format.specs.Files.{head};
 ghost use Rattle.proof.specs.Counted.{counted};
 ghost use Rattle.account.specs.Words.{hexOf};
-ghost use Rattle.account.specs.Lines.{kindWord, indent, part as partText, operationLine, contentText, itemLine, digestLine, messageLine, rootLine, countsLine};
+ghost use Rattle.account.specs.Lines.{kindWord, indent, part as partText, operationLine, contentText, itemLine, digestLine, messageLine, rootLine, countsLine, ofLimit, sizeLine, canonicalLine};
 use crate::words::hex;
 use crate::words::spaces;
 use crate::words::text;
@@ -166,4 +166,28 @@ pub fn counts_line(heap: Global, counts: &Counts) -> Result<String, AllocError>
         heap,
         "claims: pending {pending}, bitcoin {bitcoin}, unknown {unknown}"
     )
+}
+
+// A count beside its limit.
+fn of_limit(heap: Global, count: usize, limit: usize) -> Result<String, AllocError>
+    ensures { λ r. ⌜ made r (λ s. string-bytes s ≡ ofLimit count limit) ⌝ }
+{
+    format!(heap, "{count} of {limit}")
+}
+
+// The size of a set of claims beside its limits.
+pub fn size_line(heap: Global, operations: usize, attestations: usize, bytes: usize) -> Result<String, AllocError>
+    ensures { λ r. ⌜ made r (λ s. string-bytes s ≡ sizeLine operations attestations bytes) ⌝ }
+{
+    let ops = of_limit(heap, operations, 1024)?;
+    let atts = of_limit(heap, attestations, 128)?;
+    let sum = of_limit(heap, bytes, 32768)?;
+    format!(heap, "size: ops {ops}, atts {atts}, bytes {sum}")
+}
+
+// The length of the canonical file.
+pub fn canonical_line(heap: Global, n: usize) -> Result<String, AllocError>
+    ensures { λ r. ⌜ made r (λ s. string-bytes s ≡ canonicalLine n) ⌝ }
+{
+    format!(heap, "canonical {n} bytes")
 }
