@@ -98,7 +98,7 @@ impl Attestation {
         }
     }
 
-    // By tag, then by height as a number, address or payload.
+    // The tag decides first; under one tag heights compare as numbers, addresses and payloads as bytes.
     pub fn order(&self, other: &Attestation) -> Ordering
         ensures { λ r. ⌜ r ≡ attOrder (att (now (self .entry))) (att (now (other .entry))) ⌝ }
     {

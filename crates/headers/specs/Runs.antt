@@ -8,8 +8,8 @@ use Rattle.headers.specs.Headers.{headerAt, previousOf, bitsOf, hashOf, hashBe
 use Rattle.headers.specs.Steps.{countLimit, heightLimit}
 use Rattle.headers.specs.Following.{coveredBy}
 
--- the header at place k is whole, names the hash before it, has a lawful target that is not above the ceiling's, lawful
--- too, and a hash that is not above its target
+-- the header at place k is whole and names the hash before it; its target and the ceiling's are lawful, the target is at most
+-- the ceiling's, and the hash is at most the target
 pub record Good (previous : List ℕ) (ceiling : ℕ) (bytes : List ℕ) (k : ℕ) : Type 0 where
   pub whole : 80 * k + 80 ≤ length bytes
   pub linked : previousOf (headerAt bytes k) ≡ hashBefore previous bytes k

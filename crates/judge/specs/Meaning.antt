@@ -36,7 +36,7 @@ ruledBy rule (fault number at) = rejected
 abbrev pub nobody : Meaning
 nobody = record { owns = λ tag. false; rules = λ tag payload message. rejected }
 
--- it owns what either owns, and the first decides what it owns
+-- the tags of both; where the first owns a tag it is asked, else the second
 abbrev pub paired : Meaning → Meaning → Meaning
 paired a b = record {
   owns = λ tag. a .owns tag || b .owns tag;

@@ -1,8 +1,8 @@
 // Writing a whole file.
-ghost use mathlib.Core.Path.{_≡_};
 ghost use mathlib.Core.List.{[], _++_};
 ghost use Prim.Native.Nat.{_+_, _≤_, _<_, _^_};
 ghost use lib.ListN.{length, take, drop};
+ghost use mathlib.Core.Path.{_≡_};
 ghost use Rattle.format.specs.Files.{mark};
 ghost use Rattle.claim_trees.specs.Bytes.{fileBytes};
 ghost use Rattle.claim_trees.specs.Onto.{nodeLength, fileLength, fileOnto};

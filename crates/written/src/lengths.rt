@@ -1,8 +1,8 @@
 // How many bytes are written. Sums stop at the largest machine number, so that no tree, however large, is measured short.
-ghost use mathlib.Core.Path.{_≡_};
 ghost use mathlib.Core.Bool.{Bool};
 ghost use Prim.Native.Nat.{_+_, _≤_};
 ghost use lib.ListN.{length};
+ghost use mathlib.Core.Path.{_≡_};
 ghost use Rattle.claim_trees.specs.Bytes.{shortest, none, nil};
 ghost use Rattle.claim_trees.specs.Onto.{blockLength, opLength, attLength, ffLength, marksLength, branchesLength, nodeLength};
 ghost use Rattle.claims.specs.Models.{op, att, atts, tree};

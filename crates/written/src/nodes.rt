@@ -1,8 +1,8 @@
 // Putting nodes: the attestations, then the branches, each with the node below it.
-ghost use mathlib.Core.Path.{_≡_};
 ghost use mathlib.Core.Bool.{Bool};
 ghost use Prim.Native.Nat.{_+_, _≤_, _<_, _^_};
 ghost use lib.ListN.{length, take};
+ghost use mathlib.Core.Path.{_≡_};
 ghost use Rattle.claim_trees.specs.Onto.{marksLength, branchesLength, nodeLength, marksOnto, branchesOnto, nodeOnto};
 ghost use Rattle.claims.specs.Models.{atts, tree};
 use crate::items::put_attestation;

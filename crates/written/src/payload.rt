@@ -1,8 +1,8 @@
 // An attestation's payload in one piece, as a judge is given it.
-ghost use mathlib.Core.Path.{_≡_};
 ghost use mathlib.Core.Bool.{true};
 ghost use Prim.Native.Nat.{_≤_};
 ghost use lib.ListN.{length};
+ghost use mathlib.Core.Path.{_≡_};
 ghost use Rattle.claim_trees.specs.Bytes.{payloadOf};
 ghost use Rattle.claim_trees.specs.Lawful.{attFits};
 ghost use Rattle.claims.specs.Models.{att};

@@ -1,8 +1,8 @@
 // Putting bytes into a lent area: each call puts them at an offset, behind what stands there, and gives the next offset.
-ghost use mathlib.Core.Path.{_≡_};
 ghost use mathlib.Core.List.{[], _∷_, _++_};
 ghost use Prim.Native.Nat.{_+_, _≤_, _<_, _^_};
 ghost use lib.ListN.{length, take};
+ghost use mathlib.Core.Path.{_≡_};
 ghost use Rattle.claim_trees.specs.Bytes.{shortest};
 ghost use Rattle.claim_trees.specs.Onto.{blockLength, ffLength, blockOnto, ffOnto};
 
