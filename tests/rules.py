@@ -187,6 +187,46 @@ def apply(kind, argument, message):
     return message.hex().encode()
 
 
+def claims(items):
+    """The set of claims: (path of (tag, argument), (tag, key, payload in shortest form))."""
+    tags = {name: tag for tag, name in KINDS.items()}
+    path, found = [], set()
+    for item in items:
+        del path[item[0] :]
+        if item[2] == "attestation":
+            said = item[3]
+            if said[0] == "bitcoin":
+                a = (BITCOIN, said[1], number(said[1]))
+            elif said[0] == "pending":
+                a = (PENDING, bytes(said[1]), block(said[1]))
+            else:
+                a = (said[1], said[2], said[2])
+            found.add((tuple(path), a))
+        else:
+            path.append((tags[item[2]], bytes(item[3])))
+    return found
+
+
+def size(found):
+    """Operations, attestations and bytes of a set of claims."""
+    beginnings = {path[: k + 1] for path, _ in found for k in range(len(path))}
+    return len(beginnings), len(found), sum(len(b[-1][1]) for b in beginnings) + sum(len(a[2]) for _, a in found)
+
+
+def canonical_node(found):
+    """The bytes of the node with these claims: attestations ascending, then operations ascending."""
+    items = [attestation(a[0], a[2]) for a in sorted(a for path, a in found if not path)]
+    for op in sorted({path[0] for path, _ in found if path}):
+        below = {(path[1:], a) for path, a in found if path and path[0] == op}
+        argument = block(op[1]) if op[0] in (0xF0, 0xF1) else b""
+        items.append(bytes([op[0]]) + argument + canonical_node(below))
+    return node(*items)
+
+
+def canonical(digest, found):
+    return file(canonical_node(found), digest)
+
+
 def account(data, messages=False):
     """What `show` prints of an accepted file."""
     digest, tag, items = read(data)
@@ -215,5 +255,12 @@ def account(data, messages=False):
         else:
             lines.append(f"{lead}{item[2]}")
     lines.append("claims: pending %d, bitcoin %d, unknown %d" % counts(items))
+    found = claims(items)
+    ops, atts, total = size(found)
+    if ops <= 1024 and atts <= 128 and total <= 32768:
+        lines.append(f"size: ops {ops} of 1024, atts {atts} of 128, bytes {total} of 32768")
+        lines.append(f"canonical {len(canonical(digest, found))} bytes")
+    else:
+        lines.append("size: above a limit")
     lines.append(f"read {len(data)} bytes")
     return lines

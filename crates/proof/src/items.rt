@@ -14,7 +14,7 @@ use crate::reader::Reader;
 
 impl<'a> Reader<'a> {
     // Whether another item follows the next one: passes over the ff that says so.
-    pub(crate) fn more(&mut self) -> bool
+    pub fn more(&mut self) -> bool
         ensures same { λ _. ⌜ now (now (self .exit) .file) ≡ now (now (self .entry) .file) ⌝ }
         ensures reads { λ r. ⌜ got r (now (self .exit) .at) ≡ moreAt (now (now (self .entry) .file)) (now (self .entry) .at) ⌝ }
     {
@@ -26,7 +26,7 @@ impl<'a> Reader<'a> {
     }
 
     // The next item, under depth operations, over a message of size bytes.
-    pub(crate) fn item(&mut self, depth: u8, size: u16) -> Result<Item<'a>, Fault>
+    pub fn item(&mut self, depth: u8, size: u16) -> Result<Item<'a>, Fault>
         ensures bounds { λ r. ⌜ made r (λ i. Bounded depth size i) ⌝ }
         ensures same { λ _. ⌜ now (now (self .exit) .file) ≡ now (now (self .entry) .file) ⌝ }
         ensures reads { λ r. ⌜ outcome piece r (now (self .exit) .at) ≡ itemAt depth size (now (now (self .entry) .file)) (now (self .entry) .at) ⌝ }

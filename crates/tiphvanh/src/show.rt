@@ -1,14 +1,20 @@
 // The account of one proof.
+use crate::files::fail;
 use crate::files::read;
+use account::lines::canonical_line;
 use account::lines::counts_line;
 use account::lines::digest_line;
 use account::lines::item_line;
 use account::lines::message_line;
 use account::lines::root_line;
+use account::lines::size_line;
 use account::refusals::around_line;
 use account::refusals::fault_line;
 use account::refusals::refused_line;
+use claims::size::size_of;
 use format::Kind;
+use gather::file::gather;
+use gather::trouble::Trouble;
 use proof::counts::count;
 use proof::fault::Fault;
 use proof::item::Content;
@@ -18,6 +24,7 @@ use replay::ROOM;
 use replay::link::Link;
 use replay::replay;
 use std::error::AnyError;
+use written::file::file_length;
 
 // No file has more items than bytes.
 const MOST: usize = 65537;
@@ -39,6 +46,7 @@ fn account(rt: &LibcRuntime, file: &[u8], messages: bool) -> Result<(), AnyError
         Ok(counts) => {
             items(rt, file, messages)?;
             rt.println(counts_line(rt.alloc(), &counts)?)?;
+            size(rt, file)?;
             let read = file.len();
             println!(rt, "read {read} bytes")?;
             Ok(())
@@ -101,6 +109,24 @@ fn message(
         }
     }
     Ok(())
+}
+
+// The size of the set of claims beside its limits, and how long its canonical file is.
+fn size(rt: &LibcRuntime, file: &[u8]) -> Result<(), AnyError> {
+    match gather(rt.alloc(), file) {
+        Ok(node) => {
+            let size = size_of(&node);
+            rt.println(size_line(rt.alloc(), size.operations, size.attestations, size.bytes)?)?;
+            rt.println(canonical_line(rt.alloc(), file_length(&node))?)?;
+            Ok(())
+        }
+        Err(Trouble::Large) => {
+            println!(rt, "size: above a limit")?;
+            Ok(())
+        }
+        Err(Trouble::Memory) => fail(rt, "memory is short"),
+        Err(Trouble::File(fault)) => refuse(rt, file, &fault),
+    }
 }
 
 fn refuse(rt: &LibcRuntime, file: &[u8], fault: &Fault) -> Result<(), AnyError> {
