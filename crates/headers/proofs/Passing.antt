@@ -78,6 +78,11 @@ pub passes-of : (base most : ℕ) (before bytes : List ℕ) (k : ℕ) (hash : Li
     → stepAt base most before bytes k ≡ Ok hash → Passes most before (headerAt bytes k) hash
 passes-of base most before bytes k hash e = passes-from most before (headerAt bytes k) hash (step-left _ _ _ e .1)
 
+-- a step on the hash before a place is the place's
+pub placed : (base : ℕ) (previous : List ℕ) (most : ℕ) (bytes before : List ℕ) (k : ℕ) (r s : Result (List ℕ) Ending)
+  → before ≡ hashBefore previous bytes k → r ≡ stepAt base most before bytes k → r ≡ s → placeIn base previous most bytes k ≡ s
+placed base previous most bytes before k r s b e f = ap (λ x. stepAt base most x bytes k) (sym b) ∙ (sym e ∙ f)
+
 -- one header further
 pub before-more : (previous bytes : List ℕ) (k : ℕ) → hashBefore previous bytes (k + 1) ≡ hashOf (headerAt bytes k)
 unfolding hashBefore

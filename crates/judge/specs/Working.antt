@@ -1,4 +1,4 @@
--- The search for a line as the code makes it, byte by byte.
+-- How the code looks for a line, byte by byte.
 use mathlib.Core.Bool.{Bool, cond, _||_}
 use mathlib.Core.List.{List, [], _∷_, _++_}
 use Prim.Native.Nat.{ℕ}

@@ -1,9 +1,9 @@
 -- The front of an area that was lent and filled, and payloads that fit the room for them.
-use mathlib.Core.Path.{_≡_, refl, sym, ap, _∙_}
+use mathlib.Core.Path.{_≡_, sym, ap, _∙_}
 use mathlib.Core.Bool.{true}
 use mathlib.Core.List.{List, _++_}
 use mathlib.Core.Logic.{⊎-elim}
-use Prim.Native.Nat.{ℕ, _+_, _^_, _≤_, _<_}
+use Prim.Native.Nat.{ℕ, _^_, _≤_}
 use native.Mathlib.Omega.{arith}
 use lib.ListN.{length, take, drop}
 use Rattle.std.proofs.shelf.Tests.{and-parts, ltb-true, leb-true, cases-lt}
@@ -11,7 +11,7 @@ use Rattle.std.proofs.shelf.Lists.{take-all}
 use Rattle.format.specs.Attestations.{Att, pending, bitcoin, unknown, addressLimit}
 use Rattle.claim_trees.specs.Lawful.{attFits}
 use Rattle.claim_trees.proofs.Spelling.{short-number}
-use Rattle.written.specs.Writing.{apart}
+use Rattle.written.specs.Payloads.{apart}
 use Rattle.written.proofs.Numbers.{long-1, long-2}
 
 -- an area of just the right length was filled, and put back

@@ -1,2 +1,3 @@
+-- Lemmas that several answers rest on.
 pub mod Numbers
 pub mod Fronts

@@ -1,16 +1,14 @@
 -- What writing a file answers, and what it leaves in the out area.
 use mathlib.Core.Bool.{Bool, cond, _&&_}
 use mathlib.Core.List.{List, _++_}
-use Prim.Native.Nat.{ℕ, _+_, _-_, _^_, min}
+use Prim.Native.Nat.{ℕ, _-_, _^_, min}
 use lib.Dec.{leb}
 use lib.ListN.{length, drop}
 use Rattle.std.specs.declared.option.Option.{Option}
 use Rattle.std.specs.declared.option.Option.the-variants.{Some, None}
-use Rattle.format.specs.Attestations.{Att, pending, bitcoin, unknown}
 use Rattle.format.specs.Files.{fileLimit}
 use Rattle.claim_trees.specs.Tree.{Held}
-use Rattle.claim_trees.specs.Bytes.{shortest, fileBytes}
-use Rattle.claim_trees.specs.Onto.{blockLength}
+use Rattle.claim_trees.specs.Bytes.{fileBytes}
 
 -- as much of a length as a machine number holds
 abbrev pub capped : ℕ → ℕ
@@ -35,9 +33,3 @@ putting file out = cond (roomy file out) (wrote (Some (length file)) (file ++ dr
 -- the same of the file of a digest and a tree
 abbrev pub writing : List ℕ → Held → List ℕ → Wrote
 writing digest x out = putting (fileBytes digest (x .marks) (x .branches)) out
-
--- how many bytes of a payload do not stand in the tree already
-abbrev pub apart : Att → ℕ
-apart (pending address) = blockLength address
-apart (bitcoin height) = length (shortest height)
-apart (unknown tag payload) = 0

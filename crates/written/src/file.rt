@@ -15,12 +15,13 @@ use crate::puts::put_bytes;
 use claims::tree::Node;
 use proof::head::MARK;
 
-// The only version, and SHA-256, the only file hash.
+// The only version.
 const VERSION: u8 = 0x01;
 
+// SHA-256, the only file hash.
 const FILE_HASH: u8 = 0x08;
 
-// A longer file is no proof.
+// The longest file that is read.
 const FILE: usize = 65536;
 
 // How long the file is, under a digest of 32 bytes: mark, version, file hash tag, digest and node.
@@ -68,7 +69,8 @@ fn put_front(out: &mut [u8], due: usize, digest: &[u8], n: &Node) -> usize
     put_file(&mut out[0..due], digest, n)
 }
 
-// Writes the file of the digest and the node, where the area has room for it, and answers its length.
+// Writes the file of the digest and the node and answers its length. A file for which the area has no room is not written, nor is
+// one that no reader would take for its length; the area is then as it was.
 pub fn write_file(digest: &[u8], node: &Node, out: &mut [u8]) -> Option<usize>
     ensures { λ r. ⌜ wrote r (now (out .exit)) ≡ writing (now (digest .entry)) (nodeOf (now (node .entry))) (now (out .entry)) ⌝ }
 {

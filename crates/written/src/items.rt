@@ -1,7 +1,7 @@
 // Putting operations and attestations.
-ghost use mathlib.Core.Path.{_≡_};
 ghost use Prim.Native.Nat.{_+_, _≤_, _<_, _^_};
 ghost use lib.ListN.{length, take};
+ghost use mathlib.Core.Path.{_≡_};
 ghost use Rattle.claim_trees.specs.Onto.{blockLength, opLength, attLength, opOnto, attOnto};
 ghost use Rattle.claims.specs.Models.{op, att};
 use crate::lengths::block_length;

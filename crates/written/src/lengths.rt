@@ -1,5 +1,4 @@
 // How many bytes are written. Sums stop at the largest machine number, so that no tree, however large, is measured short.
-ghost use mathlib.Core.Bool.{Bool};
 ghost use Prim.Native.Nat.{_+_, _≤_};
 ghost use lib.ListN.{length};
 ghost use mathlib.Core.Path.{_≡_};

@@ -1,5 +1,4 @@
 // Putting nodes: the attestations, then the branches, each with the node below it.
-ghost use mathlib.Core.Bool.{Bool};
 ghost use Prim.Native.Nat.{_+_, _≤_, _<_, _^_};
 ghost use lib.ListN.{length, take};
 ghost use mathlib.Core.Path.{_≡_};

@@ -6,7 +6,7 @@ ghost use mathlib.Core.Path.{_≡_};
 ghost use Rattle.claim_trees.specs.Bytes.{payloadOf};
 ghost use Rattle.claim_trees.specs.Lawful.{attFits};
 ghost use Rattle.claims.specs.Models.{att};
-ghost use Rattle.written.specs.Writing.{apart};
+ghost use Rattle.written.specs.Payloads.{apart};
 use crate::puts::put_block;
 use crate::puts::put_number;
 use claims::tree::Attestation;

@@ -1,9 +1,8 @@
-use mathlib.Core.Path.{_≡_, refl, sym, ap, _∙_}
+use mathlib.Core.Path.{_≡_, refl, ap, _∙_}
 use mathlib.Core.List.{_++_}
 use native.Mathlib.Omega.{arith}
 use Prim.Native.Nat.{_+_}
 use lib.ListN.{length, take}
-use borrow.Author.Needs.{needs}
 use Rattle.std.proofs.shelf.Parts.{take-putMid}
 use Rattle.written.proofs.puts.put_bytes.Needs as need
 

@@ -1,10 +1,7 @@
-use mathlib.Core.Path.{_≡_}
-use Prim.Native.Nat.{ℕ, suc, _+_, _-_, _≤_, _<_, _^_}
+use Prim.Native.Nat.{_+_, _-_}
 use native.Mathlib.Omega.{arith}
-use lib.ListN.{length}
-use Rattle.claim_trees.specs.Bytes.{groups}
 use Rattle.written.proofs.puts.put_number.Needs as need
-use Rattle.written.proofs.Numbers.{Going, start, turn, due, some, stop, going-at}
+use Rattle.written.proofs.Numbers.{start, turn, due, some, stop, going-at}
 
 pub loop-left-holds : need.loop-left-holds
 loop-left-holds c = (omega arith, omega arith, going-at (start (c .args .out .now) (c .args .at) (c .args .n) (omega arith)) (omega arith))
@@ -19,7 +16,8 @@ loop-left-again c =
     let g = c .loop-left .inv .2 .long in let s = some (c .loop-left .left) k in (
       omega arith,
       omega arith,
-      going-at (turn (c .args .out .now) (c .args .at) (c .args .n) (c .loop-left .out) (c .loop-left .next) (c .loop-left .left) k (k - 1) (omega arith) (omega arith) (omega arith) (c .loop-left .inv .2)) (omega arith),
+      going-at (turn (c .args .out .now) (c .args .at) (c .args .n) (c .loop-left .out) (c .loop-left .next) (c .loop-left .left) k (k - 1)
+          (omega arith) (omega arith) (omega arith) (c .loop-left .inv .2)) (omega arith),
     )
 
 pub index-out-next-2 : need.index-out-next-2
