@@ -1,11 +1,11 @@
 // Building the tree of a node from its items: each is a tree of its own, merged into those before it.
-ghost use mathlib.Core.Path.{_≡_};
 ghost use mathlib.Core.Bool.{true, false};
 ghost use Prim.Native.Nat.{ℕ, _≤_};
 ghost use Rattle.format.specs.Nodes.{nodeAt};
 ghost use Rattle.claims.specs.Models.{node as held};
 ghost use Rattle.gather.specs.Trees.{fitting};
 ghost use Rattle.gather.specs.Readings.{branchAt, Built, Joined};
+ghost use mathlib.Core.Path.{_≡_};
 use crate::single::blank;
 use crate::single::branch;
 use crate::single::mark;

@@ -1,8 +1,8 @@
 // Nodes of nothing and of one item, with bytes of their own.
-ghost use mathlib.Core.Path.{_≡_};
 ghost use mathlib.Core.List.{[], _∷_};
 ghost use Prim.Native.Nat.{ℕ};
 ghost use lib.ListN.{length};
+ghost use mathlib.Core.Path.{_≡_};
 ghost use Rattle.std.specs.Vec.{made};
 ghost use Rattle.format.specs.Operations.{opOf};
 ghost use Rattle.claim_trees.specs.Tree.{end, more, held, blank as none};

@@ -1,6 +1,6 @@
 // Why a file's tree is not given.
-ghost use mathlib.Core.Path.{_≡_};
 ghost use Rattle.gather.specs.declared.trouble.Trouble.the-variants.{File, Memory};
+ghost use mathlib.Core.Path.{_≡_};
 use proof::fault::Fault;
 use std::alloc::AllocError;
 

@@ -3,7 +3,6 @@ use crate::ask::PENDING;
 use crate::ask::print_asked;
 use judge::calendar_judge::CalendarJudge;
 use judge::calendar_judge::CalendarsJudge;
-use std::error::AnyError;
 use std::fs;
 use std::io;
 
@@ -17,7 +16,7 @@ fn print_pending(
     print_asked(rt, judge, group, name, &PENDING, payload, b"message")
 }
 
-fn print_text(rt: &LibcRuntime, name: &str, path: &str) -> Result<(), AnyError> {
+fn print_text(rt: &LibcRuntime, name: &str, path: &str) -> io::Result<()> {
     let text = fs::read(rt, path)?;
     let judge = CalendarJudge::new(&text);
     print_pending(rt, &judge, name, "listed", b"\x15https://a.example.org")?;
@@ -35,11 +34,10 @@ fn print_text(rt: &LibcRuntime, name: &str, path: &str) -> Result<(), AnyError> 
     print_pending(rt, &judge, name, "empty", b"\x00")?;
     print_pending(rt, &judge, name, "spaces", b"\x0ano address")?;
     print_pending(rt, &judge, name, "cut", b"\x16https://c.example.org")?;
-    print_pending(rt, &judge, name, "trailing", b"\x14https://c.example.org")?;
-    Ok(())
+    print_pending(rt, &judge, name, "trailing", b"\x14https://c.example.org")
 }
 
-pub fn print_calendars(rt: &LibcRuntime) -> Result<(), AnyError> {
+pub fn print_calendars(rt: &LibcRuntime) -> io::Result<()> {
     print_text(rt, "calendars", "calendars.txt")?;
     print_text(rt, "ended", "ended.txt")?;
     print_text(rt, "nothing", "nothing.txt")

@@ -9,7 +9,6 @@ use headers::ending::Ending;
 use judge::header_judge::HeaderJudge;
 use judge::header_judge::HeadersJudge;
 use judge::judge::Judge;
-use std::error::AnyError;
 use std::fs;
 use std::io;
 
@@ -110,27 +109,24 @@ fn print_chain(
     Ok(())
 }
 
-fn print_file(rt: &LibcRuntime, name: &str, base: u32) -> Result<(), AnyError> {
+fn print_file(rt: &LibcRuntime, name: &str, base: u32) -> io::Result<()> {
     let path = format!(rt.alloc(), "{name}.bin")?;
     let bytes = fs::read(rt, path.as_str())?;
-    print_chain(rt, name, base, PREVIOUS, CEILING, &bytes)?;
-    Ok(())
+    print_chain(rt, name, base, PREVIOUS, CEILING, &bytes)
 }
 
-fn print_first(rt: &LibcRuntime) -> Result<(), AnyError> {
+fn print_first(rt: &LibcRuntime) -> io::Result<()> {
     let bytes = fs::read(rt, "first.bin")?;
-    print_chain(rt, "first", 0, NOTHING, 0x1d00ffff, &bytes)?;
-    Ok(())
+    print_chain(rt, "first", 0, NOTHING, 0x1d00ffff, &bytes)
 }
 
-fn print_unlawful(rt: &LibcRuntime) -> Result<(), AnyError> {
+fn print_unlawful(rt: &LibcRuntime) -> io::Result<()> {
     let bytes = fs::read(rt, "whole.bin")?;
-    print_chain(rt, "unlawful-ceiling", 0, PREVIOUS, 0x20800000, &bytes)?;
-    Ok(())
+    print_chain(rt, "unlawful-ceiling", 0, PREVIOUS, 0x20800000, &bytes)
 }
 
 // Each chain but the whole ones breaks in one way.
-pub fn print_chains(rt: &LibcRuntime) -> Result<(), AnyError> {
+pub fn print_chains(rt: &LibcRuntime) -> io::Result<()> {
     print_first(rt)?;
     print_file(rt, "whole", 0)?;
     print_file(rt, "empty", 7)?;
@@ -145,7 +141,7 @@ pub fn print_chains(rt: &LibcRuntime) -> Result<(), AnyError> {
     print_more_chains(rt)
 }
 
-fn print_more_chains(rt: &LibcRuntime) -> Result<(), AnyError> {
+fn print_more_chains(rt: &LibcRuntime) -> io::Result<()> {
     print_file(rt, "smaller-target", 500)?;
     print_file(rt, "no-work", 500)?;
     print_file(rt, "small-no-work", 500)?;
@@ -157,7 +153,7 @@ fn print_more_chains(rt: &LibcRuntime) -> Result<(), AnyError> {
 }
 
 // The first root of a chain under payloads of every form.
-pub fn print_payloads(rt: &LibcRuntime) -> Result<(), AnyError> {
+pub fn print_payloads(rt: &LibcRuntime) -> io::Result<()> {
     let bytes = fs::read(rt, "whole.bin")?;
     let judge = HeaderJudge::new(0, PREVIOUS, CEILING, &bytes);
     let root = root(&bytes, 0, false);
@@ -208,13 +204,11 @@ pub fn print_payloads(rt: &LibcRuntime) -> Result<(), AnyError> {
         &BITCOIN,
         &[0x80, 0x80, 0x80, 0x80, 0x80, 0x00],
         &root,
-    )?;
-    Ok(())
+    )
 }
 
 // The run alone of a file of headers from height 0 on.
-pub fn print_long(rt: &LibcRuntime, path: &str) -> Result<(), AnyError> {
+pub fn print_long(rt: &LibcRuntime, path: &str) -> io::Result<()> {
     let bytes = fs::read(rt, path)?;
-    print_run(rt, path, &HeaderJudge::new(0, NOTHING, CEILING, &bytes))?;
-    Ok(())
+    print_run(rt, path, &HeaderJudge::new(0, NOTHING, CEILING, &bytes))
 }

@@ -14,7 +14,6 @@ use judge::header_judge::HeadersJudge;
 use judge::judge::Judge;
 use judge::pair::Pair;
 use judge::pair::PairJudge;
-use std::error::AnyError;
 use std::fs;
 use std::io;
 
@@ -60,7 +59,7 @@ fn print_judges<'x>(
     print_judge(rt, "pair", &Pair { first, second }, root)
 }
 
-pub fn print_choices(rt: &LibcRuntime) -> Result<(), AnyError> {
+pub fn print_choices(rt: &LibcRuntime) -> io::Result<()> {
     let bytes = fs::read(rt, "whole.bin")?;
     let text = fs::read(rt, "calendars.txt")?;
     let headers: &[u8] = &bytes;

@@ -7,7 +7,6 @@ mod choices;
 use dates::text::text;
 use dates::utc::utc;
 use std::env;
-use std::error::AnyError;
 use std::io;
 
 const TIMES: [u32; 12] = [
@@ -34,7 +33,7 @@ fn print_dates(rt: &LibcRuntime) -> io::Result<()> {
     Ok(())
 }
 
-fn run(rt: &LibcRuntime) -> Result<(), AnyError> {
+fn run(rt: &LibcRuntime) -> io::Result<()> {
     let mut words = env::args(rt)?;
     let _program = words.next();
     if let Some(file) = words.next() {
@@ -44,10 +43,9 @@ fn run(rt: &LibcRuntime) -> Result<(), AnyError> {
     chains::print_payloads(rt)?;
     calendars::print_calendars(rt)?;
     choices::print_choices(rt)?;
-    print_dates(rt)?;
-    Ok(())
+    print_dates(rt)
 }
 
-fn main(rt: LibcRuntime) -> Result<(), AnyError> {
+fn main(rt: LibcRuntime) -> io::Result<()> {
     rt.report(run(&rt))
 }
