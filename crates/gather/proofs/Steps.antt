@@ -2,13 +2,12 @@
 use mathlib.Core.Path.{_≡_, refl, sym, ap, subst, _∙_}
 use mathlib.Core.Bool.{Bool, true, false, cond}
 use mathlib.Core.List.{List, [], _∷_, _++_, map}
-use mathlib.Core.Logic.{_⊎_, inl, inr, ⊎-elim}
+use mathlib.Core.Logic.{⊎-elim}
 use Prim.Native.Nat.{ℕ, _+_, _≤_, _<_}
 use native.Mathlib.Omega.{arith}
-use native.Mathlib.Nat.{le-refl}
 use lib.ListN.{length}
 use Rattle.std.specs.declared.result.Result.{Result}
-use Rattle.std.specs.declared.result.Result.the-variants.{Ok, Err}
+use Rattle.std.specs.declared.result.Result.the-variants.{Err}
 use Rattle.std.specs.Results.{ErrBy}
 use Rattle.std.proofs.shelf.Results.{err-from-errBy}
 use Rattle.std.proofs.shelf.Tests.{cases-lt}
@@ -17,8 +16,8 @@ use Rattle.format.specs.declared.Kind.{Kind}
 use Rattle.format.specs.Outcome.{Outcome, got, fault, then}
 use Rattle.format.specs.Operations.{opOf, resultSize}
 use Rattle.format.specs.Attestations.{Att}
-use Rattle.format.specs.Items.{Piece, operation, attestation, itemAt}
-use Rattle.format.specs.Nodes.{Claim, claim, under, moreAt, belowBy, branchBy, nodeBy, nodeAt}
+use Rattle.format.specs.Items.{operation, attestation, itemAt}
+use Rattle.format.specs.Nodes.{Claim, claim, under, moreAt, belowBy, branchBy, nodeAt}
 use Rattle.format.proofs.Progress.{From}
 use Rattle.format.proofs.NodeLaw.{item-past, more-from, branch-from, node-law, node-from}
 use Rattle.format.proofs.Progress.{from-weaker}
@@ -30,7 +29,7 @@ use Rattle.claims.specs.declared.tree.Node.{Node}
 use Rattle.gather.specs.declared.trouble.Trouble.{Trouble}
 use Rattle.gather.specs.declared.trouble.Trouble.the-variants.{File, Memory, Large}
 use Rattle.gather.specs.Trees.{fitting}
-use Rattle.gather.specs.Readings.{branchAt, Read, Passes, Stops, Built, Joined}
+use Rattle.gather.specs.Readings.{branchAt, Read, Passes, Stops, Built}
 use Rattle.gather.proofs.Larger.{gathered-mark, gathered-under, passes-left, passes-right, passes-under}
 
 -- the claims cs, then what is read

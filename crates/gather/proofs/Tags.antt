@@ -18,7 +18,6 @@ use Rattle.format.specs.Attestations.{Att, pending, bitcoin, unknown, bitcoinTa
 use Rattle.format.specs.Items.{Piece, operation, attestation, operationAt, attestationAt, itemAt}
 use Rattle.proof.specs.declared.item.Item.{Item}
 use Rattle.proof.specs.declared.item.Item.the-variants.{Operation, Attestation}
-use Rattle.proof.specs.declared.item.Content.{Content}
 use Rattle.proof.specs.declared.item.Content.the-variants.{Pending, Bitcoin, Unknown}
 use Rattle.proof.specs.Pieces.{piece}
 use Rattle.gather.specs.Readings.{TaggedItem}

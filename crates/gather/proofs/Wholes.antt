@@ -2,36 +2,22 @@
 use mathlib.Core.Path.{_≡_, refl, sym, ap, subst, _∙_}
 use mathlib.Core.Bool.{Bool, true, false, cond}
 use mathlib.Core.List.{List}
-use mathlib.Core.Logic.{_⊎_, inl, inr, ⊎-elim}
 use Prim.Native.Nat.{ℕ}
 use native.Mathlib.Omega.{arith}
 use lib.Dec.{leb, eqb}
 use lib.ListN.{length}
 use Rattle.std.specs.declared.result.Result.{Result}
 use Rattle.std.specs.declared.result.Result.the-variants.{Ok, Err}
-use Rattle.std.proofs.shelf.Tests.{cases-bool}
 use Rattle.format.specs.Outcome.{Outcome, got, fault, then}
 use Rattle.format.specs.Nodes.{Claim, nodeAt}
 use Rattle.format.specs.Files.{Head, Said, said, fileLimit, headAt, topAt, endAt, startAt, fileAt}
-use Rattle.format.specs.Counts.{Counts, countsOf}
 use Rattle.claim_trees.specs.Gathered.{gathered}
 use Rattle.claims.specs.declared.tree.Node.{Node}
 use Rattle.claims.specs.Models.{node}
-use Rattle.proof.specs.Faults.{numbered}
 use Rattle.gather.specs.declared.trouble.Trouble.{Trouble}
 use Rattle.gather.specs.declared.trouble.Trouble.the-variants.{File, Memory, Large}
-use Rattle.gather.specs.Trees.{Says, fitting}
-use Rattle.gather.specs.Readings.{Passes, Stops, Built, Grows}
-
--- ---- the scan
-
-pub scanned : (o : Outcome Said) (c : Counts) (n : ℕ) → got c n ≡ then o (λ s n. got (countsOf (s .claims)) n) → (s : Said) × (o ≡ got s n)
-scanned (got s m) c n e = (s, ap (got s) (let z : m ≡ n = cc in z))
-scanned (fault x y) c n e = absurd (let z : _≡_ {A = ℕ} 0 1 = cc in omega arith)
-
-pub scan-fault : (o : Outcome Said) (x y : ℕ) → fault x y ≡ then o (λ s n. got (countsOf (s .claims)) n) → o ≡ fault x y
-scan-fault (got s m) x y e = absurd (let z : _≡_ {A = ℕ} 0 1 = cc in omega arith)
-scan-fault (fault u v) x y e = let p : u ≡ x = cc in let q : v ≡ y = cc in λ i. fault (p i) (q i)
+use Rattle.gather.specs.Trees.{Says}
+use Rattle.gather.specs.Readings.{Passes, Built, Grows}
 
 -- ---- the top node
 

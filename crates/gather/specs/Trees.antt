@@ -7,7 +7,6 @@ use lib.ListN.{length}
 use Rattle.std.specs.declared.result.Result.{Result}
 use Rattle.std.specs.declared.result.Result.the-variants.{Ok, Err}
 use Rattle.format.specs.Outcome.{got, fault}
-use Rattle.format.specs.Nodes.{Claim}
 use Rattle.format.specs.Files.{Said, fileAt}
 use Rattle.claim_trees.specs.Tree.{Held}
 use Rattle.claim_trees.specs.Size.{within, sizeOf}

@@ -1,8 +1,7 @@
-use borrow.Author.Needs.{needs}
 use mathlib.Core.Path.{_≡_, refl, sym, ap, subst, _∙_}
 use mathlib.Core.Bool.{false}
-use mathlib.Core.List.{List, [], _∷_, _++_, map}
-use Prim.Native.Nat.{_≤_, _<_, _+_}
+use mathlib.Core.List.{[], _++_, map}
+use Prim.Native.Nat.{_<_, _+_}
 use native.Mathlib.Nat.{mod-lt}
 use native.Mathlib.Omega.{arith}
 use lib.ListN.{length}
@@ -15,7 +14,7 @@ use Rattle.claims.specs.Models.{node}
 use Rattle.gather.specs.Trees.{fitting}
 use Rattle.gather.specs.Readings.{branchAt, TaggedItem, Passes}
 use Rattle.gather.proofs.Tags.{tagged}
-use Rattle.gather.proofs.Steps.{behind, behind-none, more-on, branch-within, branch-on, branch-fault, branch-mark, branch-below, step-fault, step-last, step-more, step-passes, behind-passes, under-passes, stops-by, built-err, read-mark, read-under, joins, some-behind}
+use Rattle.gather.proofs.Steps.{behind-none, more-on, branch-within, branch-on, branch-fault, branch-mark, branch-below, step-fault, step-last, step-more, step-passes, behind-passes, under-passes, stops-by, built-err, read-mark, read-under, joins, some-behind}
 use Rattle.gather.proofs.node.+join+read_branch+read_node.Needs as need
 
 pub read-branch-returns-in-Break-content : need.read-branch-returns-in-Break-content
