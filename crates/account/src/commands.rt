@@ -13,6 +13,8 @@ pub enum Command<'a> {
     Show(&'a str),
     // the same, with the message under each attestation
     Messages(&'a str),
+    // what the headers at a path cover; the words behind the path are its options
+    Headers(&'a str),
     Unknown,
 }
 
@@ -38,6 +40,9 @@ pub fn parse<'a>(count: usize, first: &str, second: &'a str, third: &'a str) -> 
         && same(second.as_bytes(), "--messages".as_bytes())
     {
         return Command::Messages(third);
+    }
+    if count >= 2 && same(word, "headers".as_bytes()) {
+        return Command::Headers(second);
     }
     Command::Unknown
 }

@@ -4,21 +4,18 @@ use std::fs;
 use std::io;
 use std::io::Read;
 
-// One byte more than the longest proof, so that a longer file shows.
-const ENOUGH: usize = 65537;
-
 // A message on standard error, and an end with status 1.
 pub fn fail(rt: &LibcRuntime, message: &str) -> Result<(), AnyError> {
     eprintln!(rt, "tiphvanh: {message}")?;
     Err("failed".into())
 }
 
-// The file, or its first 65,537 bytes.
-pub fn read(rt: &LibcRuntime, path: &str) -> io::Result<Vec<u8>> {
+// The file, or as many bytes of its beginning as are enough.
+pub fn read(rt: &LibcRuntime, path: &str, enough: usize) -> io::Result<Vec<u8>> {
     let mut file = fs::open(rt, path)?;
-    let mut bytes = vec![in rt.alloc(); 0u8; ENOUGH]?;
+    let mut bytes = vec![in rt.alloc(); 0u8; enough]?;
     let mut at = 0;
-    for _ in 0..ENOUGH {
+    for _ in 0..enough {
         if at >= bytes.len() {
             break;
         }

@@ -1,31 +1,19 @@
 // The program: it reads files and prints what the library says of them.
+mod coverage;
 mod files;
 mod show;
+mod words;
 
 use account::commands::Command;
 use account::commands::parse;
+use crate::coverage::headers;
 use files::fail;
 use show::show;
-use std::env;
 use std::error::AnyError;
+use words::word;
+use words::words;
 
 const VERSION: &str = "tiphvanh 0.1.0";
-
-// The words after the program's name.
-fn words(rt: &LibcRuntime) -> Result<Vec<String>, AnyError> {
-    let mut words = Vec::new(rt.alloc());
-    for word in env::args(rt)?.skip(1) {
-        words.push(word)?;
-    }
-    Ok(words)
-}
-
-fn word(words: &Vec<String>, at: usize) -> &str {
-    match words.get(at) {
-        Some(w) => w.as_str(),
-        None => "",
-    }
-}
 
 fn usage(rt: &LibcRuntime) -> Result<(), AnyError> {
     println!(rt, "usage: tiphvanh COMMAND")?;
@@ -37,6 +25,14 @@ fn usage(rt: &LibcRuntime) -> Result<(), AnyError> {
     println!(
         rt,
         "               the same, with the message that each attestation is of"
+    )?;
+    println!(
+        rt,
+        "  headers FILE [--base N] [--previous HEX] [--ceiling HEX]"
+    )?;
+    println!(
+        rt,
+        "               the heights and times that a file of block headers covers, and why no more"
     )?;
     println!(rt, "  version      the version of this program")?;
     println!(rt, "  help         this text")?;
@@ -62,6 +58,7 @@ fn run(rt: &LibcRuntime) -> Result<(), AnyError> {
         }
         Command::Show(path) => show(rt, path, false),
         Command::Messages(path) => show(rt, path, true),
+        Command::Headers(path) => headers(rt, path, &words),
         Command::Unknown => fail(rt, "not a command: see tiphvanh help"),
     }
 }

@@ -26,12 +26,15 @@ use replay::replay;
 use std::error::AnyError;
 use written::file::file_length;
 
+// One byte more than the longest proof, so that a longer file shows.
+const ENOUGH: usize = 65537;
+
 // No file has more items than bytes.
-const MOST: usize = 65537;
+const MOST: usize = ENOUGH;
 
 // With messages, where they are asked for.
 pub fn show(rt: &LibcRuntime, path: &str, messages: bool) -> Result<(), AnyError> {
-    match read(rt, path) {
+    match read(rt, path, ENOUGH) {
         Ok(file) => account(rt, file.as_slice(), messages),
         Err(error) => {
             eprintln!(rt, "tiphvanh: cannot read {path}: {error}")?;

@@ -1,0 +1,3 @@
+pub mod Hexes
+pub mod Inverses
+pub mod Numerals

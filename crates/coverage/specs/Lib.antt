@@ -1,0 +1,5 @@
+pub mod Reading
+pub mod Inverse
+pub mod Options
+pub mod Spans
+pub mod Lines
