@@ -1,0 +1,10 @@
+pub mod Stepping
+pub mod Keeping
+pub mod GatheringFiles
+pub mod WritingFiles
+pub mod Counting
+pub mod Dating
+pub mod Reporting
+pub mod Refusing
+pub mod Laws
+pub mod Trying

@@ -1,0 +1,9 @@
+pub mod Contents
+pub mod Answers
+pub mod Adding
+pub mod Writing
+pub mod Reports
+pub mod Sheets
+pub mod Runs
+pub mod Law
+pub mod Examples
