@@ -31,7 +31,7 @@ abbrev pub Settled : Dossier → (Content → Type 0) → Type 0
 Settled (opened t) P = ⊥
 Settled (settled t) P = P t
 
--- an open dossier takes add and settle, and nothing else
+-- while it is open, files may be added and it may be settled; no other call is taken
 abbrev pub OpenTakes : Content → Event → Dossier → Type 0
 OpenTakes s (add file answer) after = Open after (Added s file answer)
 OpenTakes s settle after = Settled after (λ t. t ≡ s)

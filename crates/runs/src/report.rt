@@ -17,7 +17,7 @@ pub struct Date {
     pub row: usize,
 }
 
-// How many claims have each verdict, and the earliest confirmed time with its lowest row.
+// The number of claims under each verdict, and the first date: the least time that is confirmed, and the lowest row that has it.
 #[derive(Clone, Copy, Debug, PartialEq, Eq)]
 pub struct Tally {
     pub confirmed: usize,
