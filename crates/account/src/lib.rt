@@ -1,4 +1,6 @@
 // What the program says of a proof: text, and nothing that reads or prints.
+#![tactic(auto)]
+
 pub mod commands;
 pub mod lines;
 pub mod refusals;

@@ -1,4 +1,5 @@
 // Sets of claims held as sorted trees: order, union, size and the written file, and their laws.
+#![tactic(auto)]
 
 ghost use Rattle.claim_trees.specs.Tree.{ClaimsAreListed};
 ghost use Rattle.claim_trees.specs.Order.{OrderLaw};

@@ -1,4 +1,6 @@
 // Sets of claims held as sorted trees.
+#![tactic(auto)]
+
 pub mod order;
 pub mod size;
 pub mod tree;

@@ -1,4 +1,6 @@
 // What a file of headers covers, and the options under which it is read: values and text, and nothing that reads files or prints.
+#![tactic(auto)]
+
 ghost use Rattle.coverage.specs.Inverse.{UnhexInvertsHex, BitsInvertHex};
 
 pub mod lines;

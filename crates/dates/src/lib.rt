@@ -1,4 +1,6 @@
 // Dates and times of day in UTC, from seconds since the beginning of 1970.
+#![tactic(auto)]
+
 ghost use Rattle.dates.specs.Utc.{UtcInvertsCounting};
 
 pub mod calendar;

@@ -1,4 +1,6 @@
 // The dossier: it takes the proofs of one record, holds exactly their claims, and writes and reports them.
+#![tactic(auto)]
+
 mod adding;
 pub mod held;
 pub mod phases;

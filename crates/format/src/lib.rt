@@ -1,4 +1,5 @@
 // What a proof file is: its definitions, its grammar, and the laws that join them.
+#![tactic(auto)]
 
 ghost use Rattle.format.specs.Exact.{Exact};
 ghost use Rattle.format.specs.FirstFault.{FirstFaultLaw};

@@ -1,4 +1,6 @@
 // Reading a proof file into the sorted tree of its claims.
+#![tactic(auto)]
+
 pub mod file;
 mod node;
 pub mod scan;

@@ -1,4 +1,6 @@
 // Block headers: their parts and targets, and the run of headers that stands on a given hash.
+#![tactic(auto)]
+
 ghost use Rattle.headers.specs.Runs.{CoversTheLongestRun, MoreBytesExtendTheRun};
 
 pub mod ending;

@@ -1,4 +1,6 @@
 // Runs of headers for callers in C: used to measure what a run costs beside its bare hashes.
+#![tactic(auto)]
+
 ghost use Rattle.std.specs.Prelude.{eqb, cond, length, replicate, ◌≡◌};
 ghost use Rattle.headers.specs.Following.{run_of};
 ghost use Rattle.sha256.specs.Sha256.{sha256 as digestOf};

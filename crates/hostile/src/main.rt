@@ -3,6 +3,8 @@
 // The answers in `stdout` follow from the rules by hand: a set of claims has as many operations as its paths have distinct
 // beginnings, as many attestations as distinct claims, and the bytes of each beginning's last argument; every payload here
 // is empty. Each file says beside it how many of each it has. More than 1,024 operations or 128 attestations are too large.
+#![tactic(auto)]
+
 mod files;
 mod parts;
 

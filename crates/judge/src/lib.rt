@@ -1,4 +1,6 @@
 // Judges: what they are, and those that are delivered.
+#![tactic(auto)]
+
 ghost use Rattle.judge.specs.Listing.{LinesSplitTheText, ListedMeansALine};
 ghost use Rattle.judge.specs.Lasting.{DecisionsLast};
 ghost use Rattle.judge.specs.Meaning.{PairingIsAssociative, NobodyChangesNothing};

@@ -1,4 +1,6 @@
 // Asks the delivered judges about made-up chains, calendars and payloads, and prints what they say.
+#![tactic(auto)]
+
 mod ask;
 mod calendars;
 mod chains;

@@ -1,4 +1,6 @@
 // A whole sheet, written into a lent area: first how long it is, then its bytes. Nothing is allocated.
+#![tactic(auto)]
+
 ghost use Rattle.std.specs.Prelude.{◌≡◌, ◌≤◌, true, length, drop};
 ghost use Rattle.claims.specs.Models.{node};
 ghost use Rattle.runs.specs.Contents.{about};

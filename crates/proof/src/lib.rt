@@ -1,4 +1,6 @@
 // The reader of proof files.
+#![tactic(auto)]
+
 pub mod attestations;
 pub mod counts;
 pub mod fault;

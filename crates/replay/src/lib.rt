@@ -1,4 +1,6 @@
 // Messages replayed in a lent work area.
+#![tactic(auto)]
+
 ghost use Rattle.std.specs.Prelude.{◌≡◌, ◌≤◌, length, take, drop, IfSome};
 ghost use Rattle.format.specs.Operations.{op_of, result_size};
 ghost use Rattle.replay.specs.Laws.{SizesAreLengths, PathsGoOn, GuardsLeave};

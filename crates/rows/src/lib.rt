@@ -1,4 +1,6 @@
 // The rows of a tree of claims, and their tally: what a judge says of each claim, in written order.
+#![tactic(auto)]
+
 ghost use Rattle.std.specs.Prelude.{◌≡◌, ◌^◌, ◌<◌, ◌≤◌, true, length, drop};
 ghost use Rattle.std.specs.List.{slice_get};
 ghost use Rattle.claims.specs.Models.{node};

@@ -1,4 +1,6 @@
 // What the calls of a dossier answer and leave, the runs of such calls, and the law over every run.
+#![tactic(auto)]
+
 ghost use Rattle.std.specs.Prelude.{[]};
 ghost use Rattle.runs.specs.Contents.{opened, blank};
 ghost use Rattle.runs.specs.Runs.{Run};

@@ -1,4 +1,6 @@
 // SHA-256 of a message of bytes.
+#![tactic(auto)]
+
 ghost use Rattle.std.specs.Prelude.{◌≡◌};
 ghost use Rattle.sha256.specs.Sha256.{digest, final_hash, sha256, PaddingIsLeast};
 

@@ -1,4 +1,6 @@
 // SHA-256 for callers in C: used to measure its speed.
+#![tactic(auto)]
+
 ghost use Rattle.std.specs.Prelude.{◌≡◌, eqb, cond, length};
 ghost use Rattle.sha256.specs.Sha256.{sha256};
 

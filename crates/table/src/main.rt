@@ -1,4 +1,6 @@
 // A table of files, each read whole: what is granted, and what is refused and where.
+#![tactic(auto)]
+
 use account::refusals::refused_line;
 use account::words::text;
 use proof::counts::count;

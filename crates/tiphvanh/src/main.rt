@@ -1,4 +1,6 @@
 // The program: it reads files and prints what the library says of them.
+#![tactic(auto)]
+
 mod coverage;
 mod files;
 mod judges;

@@ -1,4 +1,5 @@
 // Prints known answers, to be held against those of another implementation: SHA-256, operations, paths, the work area.
+#![tactic(auto)]
 
 mod areas;
 mod digests;

@@ -1,4 +1,6 @@
 // The bytes of a tree of claims: first how many they are, then written into a lent area.
+#![tactic(auto)]
+
 pub mod file;
 mod items;
 mod lengths;
