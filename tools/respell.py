@@ -15,8 +15,6 @@ WORD = r"[A-Za-z][A-Za-z0-9_'′-]*"
 TOP = re.compile(rf"^(?:abbrev |unfoldable |opaque )?(?:pub )?(?:data |record )?({WORD})(?= [:({{])")
 MEMBER = re.compile(rf"^\s+(?:abbrev |unfoldable )?(?:pub )?(?:data |record )?({WORD}) :(?= )")
 TOKEN = re.compile(rf'"(?:[^"\\]|\\.)*"|{WORD}')
-# what Rattle makes is not ours to name
-MADE = re.compile(r"^(returns|loop|invariant|decreases|if|in|then|else|overflow|in_bounds|goal|type_inv)(-|$)")
 
 
 def files(ends, under="crates"):
@@ -73,7 +71,7 @@ def main():
             seen |= set(re.findall(r"\b([a-z_][a-z0-9_]*): ", text)) | set(re.findall(r"\blet (?:mut )?([a-z_][a-z0-9_]*)", text))
     turn, made, bad = {}, {}, 0
     # definitions first: they keep the plain name
-    for old in sorted((n for n in names if spelled(n) != n and not MADE.match(n)), key=lambda n: ("-" in n, n)):
+    for old in sorted((n for n in names if spelled(n) != n), key=lambda n: ("-" in n, n)):
         new = spelled(old)
         if new in seen or new in made:
             why = f"with {made[new]}" if new in made else "stands already"

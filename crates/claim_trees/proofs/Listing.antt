@@ -26,10 +26,10 @@ here_in a [] i = elim i [ ]
 here_in a (x ∷ m) (inl e) = inl (ap (λ c. c.attestation) e)
 here_in a (x ∷ m) (inr i) = inr (here_in a m i)
 
-pub in-here : (a : Att) (m : List Att) → In a m → In (claim [] a) (map here m)
-in-here a [] i = elim i [ ]
-in-here a (x ∷ m) (inl e) = inl (ap here e)
-in-here a (x ∷ m) (inr i) = inr (in-here a m i)
+pub in_here : (a : Att) (m : List Att) → In a m → In (claim [] a) (map here m)
+in_here a [] i = elim i [ ]
+in_here a (x ∷ m) (inl e) = inl (ap here e)
+in_here a (x ∷ m) (inr i) = inr (in_here a m i)
 
 pub not_here : (o : Op) (os : List Op) (a : Att) (m : List Att) → In (claim (o ∷ os) a) (map here m) → ⊥
 not_here o os a [] i = elim i [ ]
@@ -51,10 +51,10 @@ under_in o os a p (c ∷ cs) (inl e) =
     (cc, inl (ap (λ z. claim z a) s ∙ ap (λ z. claim c.path z) r))
 under_in o os a p (c ∷ cs) (inr i) = let r = under_in o os a p cs i in (r.0, inr r.1)
 
-pub in-under : (o : Op) (os : List Op) (a : Att) (cs : List Claim) → In (claim os a) cs → In (claim (o ∷ os) a) (map (under o) cs)
-in-under o os a [] i = elim i [ ]
-in-under o os a (c ∷ cs) (inl e) = inl (ap (under o) e)
-in-under o os a (c ∷ cs) (inr i) = inr (in-under o os a cs i)
+pub in_under : (o : Op) (os : List Op) (a : Att) (cs : List Claim) → In (claim os a) cs → In (claim (o ∷ os) a) (map (under o) cs)
+in_under o os a [] i = elim i [ ]
+in_under o os a (c ∷ cs) (inl e) = inl (ap (under o) e)
+in_under o os a (c ∷ cs) (inr i) = inr (in_under o os a cs i)
 
 not_through : (a : Att) (t : Tree) → In (claim [] a) (through t) → ⊥
 unfolding through
@@ -70,19 +70,19 @@ module _ (o : Op) (os : List Op) (a : Att) (below : (m : List Att) (t : Tree) �
       (λ j. inr (through_in r j))
       (in_either (claim (o ∷ os) a) (map (under p) (claims m b)) (through r) i)
 
-  in-through : (t : Tree) → Through o (Claims os a) t → In (claim (o ∷ os) a) (through t)
+  in_through : (t : Tree) → Through o (Claims os a) t → In (claim (o ∷ os) a) (through t)
   unfolding through
-  in-through end i = elim i [ ]
-  in-through (more p m b r) (inl q) = in_left (claim (o ∷ os) a) (map (under p) (claims m b)) (through r)
-      (subst (λ z. In (claim (o ∷ os) a) (map (under z) (claims m b))) q.0 (in-under o os a (claims m b) ((below m b).1 q.1)))
-  in-through (more p m b r) (inr i) = in_right (claim (o ∷ os) a) (map (under p) (claims m b)) (through r) (in-through r i)
+  in_through end i = elim i [ ]
+  in_through (more p m b r) (inl q) = in_left (claim (o ∷ os) a) (map (under p) (claims m b)) (through r)
+      (subst (λ z. In (claim (o ∷ os) a) (map (under z) (claims m b))) q.0 (in_under o os a (claims m b) ((below m b).1 q.1)))
+  in_through (more p m b r) (inr i) = in_right (claim (o ∷ os) a) (map (under p) (claims m b)) (through r) (in_through r i)
 
 pub listed : ClaimsAreListed
 listed [] a m t = (
   (λ i. ⊎_elim (here_in a m) (λ j. absurd (not_through a t j)) (in_either (claim [] a) (map here m) (through t) i)),
-  (λ i. in_left (claim [] a) (map here m) (through t) (in-here a m i)),
+  (λ i. in_left (claim [] a) (map here m) (through t) (in_here a m i)),
 )
 listed (o ∷ os) a m t = (
   (λ i. ⊎_elim (λ j. absurd (not_here o os a m j)) (through_in o os a (listed os a) t) (in_either (claim (o ∷ os) a) (map here m) (through t) i)),
-  (λ i. in_right (claim (o ∷ os) a) (map here m) (through t) (in-through o os a (listed os a) t i)),
+  (λ i. in_right (claim (o ∷ os) a) (map here m) (through t) (in_through o os a (listed os a) t i)),
 )

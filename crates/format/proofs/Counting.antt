@@ -10,7 +10,7 @@ use Rattle.format.specs.Files.{Head, said, head_at, end_at, start_at, file_at, f
 use Rattle.format.specs.Walks.{Level, Place, inside, behind, Step, Handed, step_at, next_at, steps_at, top, walked, walk_at, claims_of}
 use Rattle.format.specs.Counts.{Counts, counts, plus, one, counts_of, adds}
 use Rattle.format.proofs.Progress.{From, from_then}
-use Rattle.format.proofs.Chains.{then-then, then_same}
+use Rattle.format.proofs.Chains.{then_then, then_same}
 use Rattle.format.proofs.StepsLaw.{steps_by, steps_law, step_from, step_past}
 use Rattle.format.proofs.WalkLaw.{items_determine_claims}
 
@@ -79,9 +79,9 @@ count_next c behind file at =
     ∙ (count_end c at (eqb at (length file)) ∙ count_end_on c file at (eqb at (length file)))
 count_next c (inside levels size) file at =
     ap (λ z. then z (λ ss last. got (plus c (step_counts ss)) last)) (steps_law (inside levels size) file at)
-    ∙ (then-then (step_at levels size file at) _ _
+    ∙ (then_then (step_at levels size file at) _ _
     ∙ (then_same (step_at levels size file at) _ _ (λ h next. count_one c h.step (steps_at h.place file next))
-    ∙ sym (then-then (step_at levels size file at) _ _)))
+    ∙ sym (then_then (step_at levels size file at) _ _)))
 
 -- the counts of a whole file
 counted_by : (file : List ℕ) (b : Bool)
@@ -91,10 +91,10 @@ counted_by : (file : List ℕ) (b : Bool)
 unfolding counts_at
 counted_by file false = refl
 counted_by file true =
-    then-then (then (head_at file) (λ h at. then (steps_at top file at) (λ ss last. got (walked h ss) last))) _ _
-    ∙ (then-then (head_at file) _ _
+    then_then (then (head_at file) (λ h at. then (steps_at top file at) (λ ss last. got (walked h ss) last))) _ _
+    ∙ (then_then (head_at file) _ _
     ∙ then_same (head_at file) _ _ (λ h at.
-    then-then (steps_at top file at) _ _
+    then_then (steps_at top file at) _ _
     ∙ then_same (steps_at top file at) _ _ (λ ss last. ap (λ z. got z last) (claims_counted [] ss ∙ sym (none_plus (step_counts ss))))))
 
 pub file_counted : (file : List ℕ)

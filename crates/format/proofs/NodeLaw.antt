@@ -54,10 +54,10 @@ steps_from_lem (suc k) depth size file at =
     from_weaker (at + 1) at _ (omega arith) (node_by_from (node_from k) depth size file at (λ d s a. steps_from_lem k d s file a))
 
 -- equal readings of the nodes below, from here on, give equal nodes
-pub then-cong : {A B : Type 0} (m : ℕ) (o : Outcome A) (f g : A → ℕ → Outcome B) → From m o
+pub then_cong : {A B : Type 0} (m : ℕ) (o : Outcome A) (f g : A → ℕ → Outcome B) → From m o
     → ((x : A) (n : ℕ) → m ≤ n → f x n ≡ g x n) → then o f ≡ then o g
-then-cong m (got x n) f g p h = h x n p
-then-cong m (fault c o) f g p h = refl
+then_cong m (got x n) f g p h = h x n p
+then_cong m (fault c o) f g p h = refl
 
 below_cong : (f g : Reading) (p : Piece) (depth size : ℕ) (file : List ℕ) (at : ℕ) → ((d s : ℕ) → f d s file at ≡ g d s file at)
     → below_by f p depth size file at ≡ below_by g p depth size file at
@@ -69,11 +69,11 @@ node_cong : (f g : Reading) (depth size : ℕ) (file : List ℕ) (at : ℕ) → 
     → ((d s a : ℕ) → at + 1 ≤ a → f d s file a ≡ g d s file a)
     → node_by f depth size file at ≡ node_by g depth size file at
 node_cong f g depth size file at q e =
-    then-cong at (more_at file at) _ _ (more_from file at) (λ more next h.
-    then-cong (next + 1) (branch_by f depth size file next) _ _ (branch_from f depth size file next q) (λ cs after v.
+    then_cong at (more_at file at) _ _ (more_from file at) (λ more next h.
+    then_cong (next + 1) (branch_by f depth size file next) _ _ (branch_from f depth size file next q) (λ cs after v.
     ap (λ z. cond more (then z (λ rest last. got (cs ++ rest) last)) (got cs after)) (e depth size after (omega arith)))
     ∙ ap (λ z. then z (λ cs after. cond more (then (g depth size file after) (λ rest last. got (cs ++ rest) last)) (got cs after)))
-    (then-cong (next + 1) (item_at depth size file next) _ _ (item_from depth size file next)
+    (then_cong (next + 1) (item_at depth size file next) _ _ (item_from depth size file next)
     (λ p end u. below_cong f g p depth size file end (λ d s. e d s end (omega arith)))))
 
 -- a bound of at least the bytes left changes nothing

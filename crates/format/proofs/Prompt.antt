@@ -87,12 +87,12 @@ on P Q a file x n (fault c o) e p q = ⊎_elim
     (λ s. inl (s.0, short_then P Q a file x n o e p s.1))
     (λ s. inr (record { above = s.above; below = s.below; m = s.m; kept = kept_then P Q a file x n s.m e p s.kept })) q
 
-then-from : {A B : Type 0} (P : List ℕ → Outcome A) (Q : A → ℕ → List ℕ → Outcome B) (a : ℕ) (file : List ℕ) (o : Outcome A)
+then_from : {A B : Type 0} (P : List ℕ → Outcome A) (Q : A → ℕ → List ℕ → Outcome B) (a : ℕ) (file : List ℕ) (o : Outcome A)
     → P file ≡ o → PromptBy o P a file
     → ((x : A) (n : ℕ) → P file ≡ got x n → a ≤ n → n ≤ length file → Prompt (Q x n) n file)
     → PromptBy (then o (λ x n. Q x n file)) (λ F. then (P F) (λ x n. Q x n F)) a file
-then-from P Q a file (got x n) e p h = on P Q a file x n (Q x n file) e p (h x n e p.low p.within)
-then-from P Q a file (fault c o) e p h = ⊎_elim
+then_from P Q a file (got x n) e p h = on P Q a file x n (Q x n file) e p (h x n e p.low p.within)
+then_from P Q a file (fault c o) e p h = ⊎_elim
     (λ s. inl (s.0, record { ends = s.1.ends; cut = λ k l u. ap (λ z. then z (λ y i. Q y i (take k file))) (s.1.cut k l u) }))
     (λ s. let q = s.kept in inr (record {
       above = s.above;
@@ -110,7 +110,7 @@ prompt_then : {A B : Type 0} (P : List ℕ → Outcome A) (Q : A → ℕ → Lis
     → Prompt P a file
     → ((x : A) (n : ℕ) → P file ≡ got x n → a ≤ n → n ≤ length file → Prompt (Q x n) n file)
     → Prompt (λ F. then (P F) (λ x n. Q x n F)) a file
-prompt_then P Q a file p h = then-from P Q a file (P file) refl p h
+prompt_then P Q a file p h = then_from P Q a file (P file) refl p h
 
 prompt_cond : {A : Type 0} (b : Bool) (S T : List ℕ → Outcome A) (a : ℕ) (file : List ℕ)
     → (b ≡ true → Prompt S a file) → (b ≡ false → Prompt T a file) → Prompt (λ F. cond b (S F) (T F)) a file

@@ -6,7 +6,7 @@ use Rattle.format.specs.Nodes.{more_at}
 use Rattle.format.specs.Files.{end_at}
 use Rattle.format.specs.Walks.{Level, Place, inside, behind, Step, step, Handed, handed, after, step_at, steps_from, steps_at}
 use Rattle.format.proofs.Progress.{From, from_then, item_from}
-use Rattle.format.proofs.NodeLaw.{item_past, more_past, more_from, then-cong}
+use Rattle.format.proofs.NodeLaw.{item_past, more_past, more_from, then_cong}
 
 -- the next item takes a byte at least
 pub step_from : (levels : List Level) (size : ℕ) (file : List ℕ) (at : ℕ) → From (at + 1) (step_at levels size file at)
@@ -30,7 +30,7 @@ steps_by f behind file at = end_at file [] at
 by_cong : (f g : Stepping) (levels : List Level) (size : ℕ) (file : List ℕ) (at : ℕ)
     → ((p : Place) (a : ℕ) → at + 1 ≤ a → f p file a ≡ g p file a) → steps_by f (inside levels size) file at ≡ steps_by g (inside levels size) file at
 by_cong f g levels size file at e =
-    then-cong (at + 1) (step_at levels size file at) _ _ (step_from levels size file at)
+    then_cong (at + 1) (step_at levels size file at) _ _ (step_from levels size file at)
     (λ h next l. ap (λ z. then z (λ ss last. got (h.step ∷ ss) last)) (e h.place next l))
 
 -- a bound of at least the bytes left changes nothing

@@ -9,8 +9,8 @@ use Rattle.format.specs.Nodes.{Claim, claim, under, more_at, below_by, branch_by
 use Rattle.format.specs.Files.{Head, Said, said, file_limit, head_at, top_at, end_at, file_at}
 use Rattle.format.specs.Walks.{Level, level, Place, inside, behind, risen, after, Step, step, Handed, step_at, steps_from, steps_at, top, Walked, walked, walk_at, path_after, claims_here, claims_of, ItemsDetermineClaims}
 use Rattle.format.proofs.Progress.{From, from_then, from_weaker, item_from}
-use Rattle.format.proofs.NodeLaw.{item_past, more_past, more_from, node_past, node_law, node_from_lem, then-cong}
-use Rattle.format.proofs.Chains.{then-then, then_same}
+use Rattle.format.proofs.NodeLaw.{item_past, more_past, more_from, node_past, node_law, node_from_lem, then_cong}
+use Rattle.format.proofs.Chains.{then_then, then_same}
 use Rattle.format.proofs.StepsLaw.{steps_by, steps_law}
 
 -- the claims of the items read, below the operations on path
@@ -50,10 +50,10 @@ stepped : (path : List Op) (levels : List Level) (size : ℕ) (file : List ℕ) 
     ≡ then (more_at file at) (λ more next. then (item_at (length levels) size file next) (λ p end.
     ahead (claims_here path (length levels) p) (gives (path_after path (length levels) p) (f (after more p levels size) end))))
 stepped path levels size file at f =
-    then-then (step_at levels size file at) _ _
-    ∙ (then-then (more_at file at) _ _
+    then_then (step_at levels size file at) _ _
+    ∙ (then_then (more_at file at) _ _
     ∙ then_same (more_at file at) _ _ (λ more next.
-    then-then (item_at (length levels) size file next) _ _
+    then_then (item_at (length levels) size file next) _ _
     ∙ then_same (item_at (length levels) size file next) _ _ (λ p end. gives_step path (length levels) p (f (after more p levels size) end))))
 
 -- ---- only the operations above a place matter there
@@ -135,10 +135,10 @@ node_inside : (path : List Op) (levels : List Level) (size : ℕ) (file : List �
     then (below_by node_at p (length levels) size file end) (λ cs n. then (rest_of more (length levels) size file cs n) (onward path levels file))))
 node_inside path levels size file at =
     ap (λ z. then z (onward path levels file)) (node_law (length levels) size file at)
-    ∙ (then-then (more_at file at) _ _
+    ∙ (then_then (more_at file at) _ _
     ∙ then_same (more_at file at) _ _ (λ more next.
-    then-then (branch_by node_at (length levels) size file next) _ _
-    ∙ then-then (item_at (length levels) size file next) _ _))
+    then_then (branch_by node_at (length levels) size file next) _ _
+    ∙ then_then (item_at (length levels) size file next) _ _))
 
 -- claims before those of a node
 ahead_onward : (path : List Op) (levels : List Level) (file : List ℕ) (xs cs ds : List Claim)
@@ -155,9 +155,9 @@ more_follows : (path : List Op) (levels : List Level) (size : ℕ) (file : List 
     → ahead xs (from path (inside levels size) file next) ≡ then (rest_of true (length levels) size file cs next) (onward path levels file)
 more_follows path levels size file next xs cs e h =
     ap (ahead xs) h
-    ∙ (then-then (node_at (length levels) size file next) (onward path levels file) (λ ds last. got (xs ++ ds) last)
+    ∙ (then_then (node_at (length levels) size file next) (onward path levels file) (λ ds last. got (xs ++ ds) last)
     ∙ (then_same (node_at (length levels) size file next) _ _ (λ ds mid. ahead_onward path levels file xs (cs ++ ds) ds (e ds) mid)
-    ∙ sym (then-then (node_at (length levels) size file next) (λ ds last. got (cs ++ ds) last) (onward path levels file))))
+    ∙ sym (then_then (node_at (length levels) size file next) (λ ds last. got (cs ++ ds) last) (onward path levels file))))
 
 bare : (path : List Op) (a : Att) → beneath path (claim [] a) ≡ claim path a
 bare path a = ap (λ z. claim z a) (append-nil path)
@@ -222,10 +222,10 @@ item_passed path levels size file more (operation kind argument offset first) en
     ahead_none (from above (inside (level more size ∷ levels) below) file end)
     ∙ (h (level more size ∷ levels) below end above (omega arith) (le_refl end)
     ∙ (ap (λ d. then (node_at d below file end) (onward above (level more size ∷ levels) file)) (sym (add-one (length levels)))
-    ∙ (then-cong (end + 1) (node_at (length levels + 1) below file end) _ _ (node_from_lem (length levels + 1) below file end) (λ cs mid g.
+    ∙ (then_cong (end + 1) (node_at (length levels + 1) below file end) _ _ (node_from_lem (length levels + 1) below file end) (λ cs mid g.
     ap (λ z. ahead (map (beneath z) cs) (from above (cond more (inside levels size) (risen levels)) file mid)) e
     ∙ operation_passed path levels size file more o cs mid l (h levels size mid path l (omega arith)))
-    ∙ sym (then-then (node_at (length levels + 1) below file end) _ _))))
+    ∙ sym (then_then (node_at (length levels + 1) below file end) _ _))))
 
 through : (k : ℕ) (levels : List Level) (size : ℕ) (file : List ℕ) (at : ℕ) (path : List Op)
     → length levels ≤ length path → length file - at ≤ k → Through file levels size at path
@@ -239,8 +239,8 @@ through zero levels size file at path l b =
     ∙ sym (ap (λ z. then z (onward path levels file)) (node_law (length levels) size file at ∙ node_past node_at (length levels) size file at past))))
 through (suc k) levels size file at path l b =
     walk_inside path levels size file at
-    ∙ (then-cong at (more_at file at) _ _ (more_from file at) (λ more next g.
-    then-cong (next + 1) (item_at (length levels) size file next) _ _ (item_from (length levels) size file next) (λ p end f.
+    ∙ (then_cong at (more_at file at) _ _ (more_from file at) (λ more next g.
+    then_cong (next + 1) (item_at (length levels) size file next) _ _ (item_from (length levels) size file next) (λ p end f.
     item_passed path levels size file more p end l (λ ls s a ops m u. through k ls s file a ops m (omega arith))))
     ∙ sym (node_inside path levels size file at))
 
@@ -268,12 +268,12 @@ topped : (h : Head) (file : List ℕ) (at : ℕ)
     → then (then (node_at 0 32 file at) (λ cs last. got (said h cs) last)) (end_at file)
     ≡ then (then (steps_at top file at) (λ ss last. got (walked h ss) last)) (λ w last. got (said w.head (claims_of [] w.steps)) last)
 topped h file at =
-    then-then (node_at 0 32 file at) _ _
+    then_then (node_at 0 32 file at) _ _
     ∙ (then_same (node_at 0 32 file at) _ _ (λ cs mid. sym (at_the_end h file cs mid))
-    ∙ (sym (then-then (node_at 0 32 file at) (onward [] [] file) (λ ds last. got (said h ds) last))
+    ∙ (sym (then_then (node_at 0 32 file at) (onward [] [] file) (λ ds last. got (said h ds) last))
     ∙ (ap (λ z. then z (λ ds last. got (said h ds) last)) (sym (through (length file) [] 32 file at [] zero-le (omega arith)))
-    ∙ (then-then (steps_at top file at) (λ ss last. got (claims_of [] ss) last) (λ ds last. got (said h ds) last)
-    ∙ sym (then-then (steps_at top file at) _ _)))))
+    ∙ (then_then (steps_at top file at) (λ ss last. got (claims_of [] ss) last) (λ ds last. got (said h ds) last)
+    ∙ sym (then_then (steps_at top file at) _ _)))))
 
 whole_by : (file : List ℕ) (b : Bool)
     → cond b (then (top_at file) (end_at file)) (fault 1 file_limit)
@@ -281,9 +281,9 @@ whole_by : (file : List ℕ) (b : Bool)
     (λ w last. got (said w.head (claims_of [] w.steps)) last)
 unfolding top_at
 whole_by file true =
-    then-then (head_at file) _ _
+    then_then (head_at file) _ _
     ∙ (then_same (head_at file) _ _ (λ h at. topped h file at)
-    ∙ sym (then-then (head_at file) _ _))
+    ∙ sym (then_then (head_at file) _ _))
 whole_by file false = refl
 
 pub items_determine_claims : ItemsDetermineClaims

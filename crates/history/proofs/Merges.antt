@@ -65,13 +65,13 @@ granted_in file es (f ∷ fs) (inr i) = granted_in file (add f (granted tt) ∷ 
 same_file : (f g : List ℕ) → ◌≡◌ {A = Event} (add f (granted tt)) (add g (granted tt)) → f ≡ g
 same_file f g e = cc
 
-in-granted : (file : List ℕ) (es : List Event) (fs : List (List ℕ)) → In (add file (granted tt)) (grants_onto es fs) → In (add file (granted tt)) es ⊎ In file fs
+in_granted : (file : List ℕ) (es : List Event) (fs : List (List ℕ)) → In (add file (granted tt)) (grants_onto es fs) → In (add file (granted tt)) es ⊎ In file fs
 unfolding grants_onto
-in-granted file es [] i = inl i
-in-granted file es (f ∷ fs) i = ⊎_elim
+in_granted file es [] i = inl i
+in_granted file es (f ∷ fs) i = ⊎_elim
     (λ j. ⊎_elim (λ q. inr (inl (same_file file f q))) (λ k. inl k) j)
     (λ j. inr (inr j))
-    (in-granted file (add f (granted tt) ∷ es) fs i)
+    (in_granted file (add f (granted tt) ∷ es) fs i)
 
 -- ---- the merge
 
@@ -86,7 +86,7 @@ module _ (files : List (List ℕ)) (m : Meaning) (out work : List ℕ) (s : Cont
   is_piece_lem file (inl q) = differ (cc)
   is_piece_lem file (inr (inl q)) = differ (cc)
   is_piece_lem file (inr (inr (inl q))) = differ (cc)
-  is_piece_lem file (inr (inr (inr i))) = ⊎_elim (λ j. absurd j) (λ j. j) (in-granted file [] files i)
+  is_piece_lem file (inr (inr (inr i))) = ⊎_elim (λ j. absurd j) (λ j. j) (in_granted file [] files i)
 
   some_piece : (c : Claim) → Union events c → SomePiece files c
   some_piece c u = record { file = u.file; says = u.says; end = u.end; piece = is_piece_lem u.file u.grant; reads = u.reads; has = u.has }

@@ -57,8 +57,8 @@ nth_here [] k a e = absurd (let z : ◌≡◌ {A = ℕ} 0 1 = cc in omega arith)
 nth_here (x ∷ m) zero a e = ap (λ z. Some (here z)) (let d : x ≡ a = cc in d)
 nth_here (x ∷ m) (suc k) a e = nth_here m k a e
 
-in-marks : (m : List Att) (t : Tree) (k : ℕ) (a : Att) → Some a ≡ slice_get m k → slice_get (claims m t) k ≡ Some (here a)
-in-marks m t k a e = nth_left (map here m) (through t) k (omega (arith, nth_some m k a e, length-map m here)) ∙ nth_here m k a e
+in_marks : (m : List Att) (t : Tree) (k : ℕ) (a : Att) → Some a ≡ slice_get m k → slice_get (claims m t) k ≡ Some (here a)
+in_marks m t k a e = nth_left (map here m) (through t) k (omega (arith, nth_some m k a e, length-map m here)) ∙ nth_here m k a e
 
 pub past_marks : (m : List Att) (t : Tree) (k n : ℕ) → None ≡ slice_get m k → n ≡ length m → slice_get (through t) (k - n) ≡ slice_get (claims m t) k
 past_marks m t k n e d =
@@ -70,7 +70,7 @@ pub shown_mark : (done : ℕ) (message : List ℕ) (m : List Att) (t : Tree) (k 
 unfolding replay
 shown_mark done message m t k a e =
     ap (λ n. Some (record { attestation = a; operations = n; message = message })) (let z : done ≡ done + 0 = omega arith in z)
-    ∙ sym (ap (shown done message) (in-marks m t k a e))
+    ∙ sym (ap (shown done message) (in_marks m t k a e))
 
 -- ---- branches
 

@@ -18,13 +18,13 @@ those p [] = []
 those p (c ∷ cs) = cond (p c) (c ∷ those p cs) (those p cs)
 
 module _ (x c : Claim) (xs : List Claim) where
-  in-if : (b : Bool) → In x (cond b (c ∷ xs) xs) → ((x ≡ c) × (b ≡ true)) ⊎ In x xs
-  in-if true i = ⊎_elim (λ e. inl (e, refl)) (λ j. inr j) i
-  in-if false i = inr i
+  in_if : (b : Bool) → In x (cond b (c ∷ xs) xs) → ((x ≡ c) × (b ≡ true)) ⊎ In x xs
+  in_if true i = ⊎_elim (λ e. inl (e, refl)) (λ j. inr j) i
+  in_if false i = inr i
 
-  if-in : (b : Bool) → ((x ≡ c) × (b ≡ true)) ⊎ In x xs → In x (cond b (c ∷ xs) xs)
-  if-in true i = ⊎_elim (λ e. inl e.0) (λ j. inr j) i
-  if-in false i = ⊎_elim (λ e. differ (let h = e.1 in cc)) (λ j. j) i
+  if_in : (b : Bool) → ((x ≡ c) × (b ≡ true)) ⊎ In x xs → In x (cond b (c ∷ xs) xs)
+  if_in true i = ⊎_elim (λ e. inl e.0) (λ j. inr j) i
+  if_in false i = ⊎_elim (λ e. differ (let h = e.1 in cc)) (λ j. j) i
 
 apart_if : (c : Claim) (xs : List Claim) (b : Bool) → (In c xs → ⊥) → Apart xs → Apart (cond b (c ∷ xs) xs)
 apart_if c xs true n a = (n, a)
@@ -36,13 +36,13 @@ passes p [] x i = absurd i
 passes p (c ∷ cs) x i = ⊎_elim
     (λ e. (inl e.0, ap p e.0 ∙ e.1))
     (λ j. let h = passes p cs x j in (inr h.0, h.1))
-    (in-if x c (those p cs) (p c) i)
+    (in_if x c (those p cs) (p c) i)
 
 passed : (p : Claim → Bool) (cs : List Claim) (x : Claim) → In x cs → p x ≡ true → In x (those p cs)
 unfolding those
 passed p [] x i h = absurd i
-passed p (c ∷ cs) x (inl e) h = if-in x c (those p cs) (p c) (inl (e, ap p (sym e) ∙ h))
-passed p (c ∷ cs) x (inr i) h = if-in x c (those p cs) (p c) (inr (passed p cs x i h))
+passed p (c ∷ cs) x (inl e) h = if_in x c (those p cs) (p c) (inl (e, ap p (sym e) ∙ h))
+passed p (c ∷ cs) x (inr i) h = if_in x c (those p cs) (p c) (inr (passed p cs x i h))
 
 those_apart : (p : Claim → Bool) (cs : List Claim) → Apart cs → Apart (those p cs)
 unfolding those

@@ -14,8 +14,8 @@ loop-i-preserved c =
     let i = c.loop-i.i in
     let hash = c.args.hash in
     let out = c.loop-i.out in
-    let word = c.to-be-bytes-word.result in
-    let is : word ≡ word_bytes (get_or hash i 0) = c.to-be-bytes-word.ensures in
+    let word = c.to_be_bytes-word.result in
+    let is : word ≡ word_bytes (get_or hash i 0) = c.to_be_bytes-word.ensures in
     let four : length word ≡ 4 = ap length is in
     let lt : i < length hash = omega arith in (
       ap length c.overwrite.ensures ∙ length_overwritten out (4 * i) word (omega arith) ∙ c.loop-i.invariant.0,

@@ -9,13 +9,13 @@ unfolding final_hash
 returns c =
     let m = c.args.message.now in
     let n = length m in
-    let last = c.last-blocks-last.result in
+    let last = c.last_blocks-last.result in
     let tail = take last.end last.bytes in
-    let whole = c.compress-blocks-whole.result in
+    let whole = c.compress_blocks-whole.result in
     let is : tail ≡ drop (n - n % 64) m ++ padding n =
-    c.last-blocks-last.ensures.bytes ∙ ap (λ r. r ++ padding n) (take_rest m (n - n % 64)) in
+    c.last_blocks-last.ensures.bytes ∙ ap (λ r. r ++ padding n) (take_rest m (n - n % 64)) in
     let from-0 : last.end - 0 ≡ last.end = omega arith in
-    c.compress-blocks.ensures
+    c.compress_blocks.ensures
     ∙ ap (λ k. hash_value whole (take k last.bytes) (length (take k last.bytes) / 64)) from-0
-    ∙ ap (λ x. hash_value x tail (length tail / 64)) c.compress-blocks-whole.ensures
+    ∙ ap (λ x. hash_value x tail (length tail / 64)) c.compress_blocks-whole.ensures
     ∙ hash_value_padded m tail is

@@ -13,7 +13,7 @@ loop-passed-preserved c =
     let n = c.loop-passed.passed in
     let m = months_more year n in
     let s : n + 1 ≡ 1 + n = omega arith in
-    let v : c.month-days-length.result ≡ month_days year (1 + n) = c.month-days-length.ensures.value ∙ ap (month_days year) s in
+    let v : c.month_days-length.result ≡ month_days year (1 + n) = c.month_days-length.ensures.value ∙ ap (month_days year) s in
     let i = c.loop-passed.invariant.0 in
     (omega arith, omega arith, omega arith)
 
@@ -24,12 +24,12 @@ returns-then-day-before c =
     let n = c.loop-passed.passed in
     let i = c.loop-passed.invariant.0 in
     let s : n + 1 ≡ 1 + n = omega arith in
-    let v : c.month-days-length.result ≡ month_days year (1 + n) = c.month-days-length.ensures.value ∙ ap (month_days year) s in
+    let v : c.month_days-length.result ≡ month_days year (1 + n) = c.month_days-length.ensures.value ∙ ap (month_days year) s in
     let y : month_at year day ≡ n = month_is year day n (omega arith) (omega arith) (omega arith) in
     record {
       bound = omega arith;
       early = omega arith;
-      late = omega (arith, c.month-days-length.ensures.most);
+      late = omega (arith, c.month_days-length.ensures.most);
       value = sym y;
       before = i ∙ ap (days_before_month year) (sym y);
     }

@@ -10,7 +10,7 @@ loop-before-init c = (sym years_zero, omega arith, omega arith)
 pub loop-before-preserved : goal.loop-before-preserved
 loop-before-preserved c =
     let m = years_more c.loop-before.passed in
-    let v = c.year-days-length.ensures.value in
+    let v = c.year_days-length.ensures.value in
     let i = c.loop-before.invariant.0 in
     (omega arith, omega arith, omega arith)
 
@@ -19,7 +19,7 @@ returns-then-days-before c =
     let n = c.loop-before.passed in
     let days = c.args.days in
     let i = c.loop-before.invariant.0 in
-    let v = c.year-days-length.ensures.value in
+    let v = c.year_days-length.ensures.value in
     let l : days < days_before_year n + year_days (1970 + n) = omega arith in
     let y : year_at days ≡ n = year_is days n (omega arith) l in
     record {

@@ -20,8 +20,8 @@ loop-i-preserved c =
     let q = get_or b i 0 in
     let ea : little (take (i + 1) a) ≡ x + 256 ^ i * p = little_more a i (omega arith) in
     let eb : little (take (i + 1) b) ≡ y + 256 ^ i * q = little_more b i (omega arith) in
-    let la : x < 256 ^ i = little_below a i (λ k. (c.type-inv.a k).fits) in
-    let lb : y < 256 ^ i = little_below b i (λ k. (c.type-inv.b k).fits) in
+    let la : x < 256 ^ i = little_below a i (λ k. (c.type_inv.a k).fits) in
+    let lb : y < 256 ^ i = little_below b i (λ k. (c.type_inv.b k).fits) in
     let ends : leb (little (take (i + 1) a)) (little (take (i + 1) b)) ≡ leb (x + 256 ^ i * p) (y + 256 ^ i * q) =
     ap (λ z. leb z (little (take (i + 1) b))) ea ∙ ap (leb (x + 256 ^ i * p)) eb in
     elim c.if-a-i.branch [

@@ -12,7 +12,7 @@ loop-i-preserved c =
     let j = c.loop-i.i - 1 in
     let up : c.loop-i.i ≡ j + 1 = omega arith in
     let inv : Turning e c.args.size w (j + 1) = subst (Turning e c.args.size w) up c.loop-i.invariant in
-    turning_more e w c.args.size j c.hex-digit-in-loop-i.result c.hex-digit.result (omega arith) (omega arith) inv c.hex-digit-in-loop-i.ensures c.hex-digit.ensures
+    turning_more e w c.args.size j c.hex_digit-in-loop-i.result c.hex_digit.result (omega arith) (omega arith) inv c.hex_digit-in-loop-i.ensures c.hex_digit.ensures
 
 pub returns : goal.returns
 returns c =

@@ -20,7 +20,7 @@ loop-j-preserved c =
     elim c.if-j-gt0.branch [
       | then-j-gt0 y ↦
           let sum : 16 * (j - 1) + 16 ≡ 16 * j = omega (arith, y.if-j-gt0.true) in
-          y.w-is ∙ y.next-window-next.ensures ∙ ap (λ x. window x 16) c.loop-j.invariant.1
+          y.w-is ∙ y.next_window-next.ensures ∙ ap (λ x. window x 16) c.loop-j.invariant.1
           ∙ window_add first (16 * (j - 1)) 16 ∙ ap (window first) sum
       | else-j-gt0 y ↦
           let same : 16 * (j - 1) ≡ 16 * j = omega (arith, y.if-j-gt0.false) in
@@ -32,7 +32,7 @@ loop-j-preserved c =
     let le : 16 * j ≤ 48 = omega arith in
     let long : length first ≡ 16 = omega arith in (
       rounds_window c.args.hash first (16 * j) long le c.loop-j.invariant.0
-          (c.sixteen-rounds-after.ensures
+          (c.sixteen_rounds-after.ensures
           ∙ ap (λ n. rounds c.loop-j.v (take n (drop (16 * j) K)) w 16) width
           ∙ ap (λ x. rounds c.loop-j.v (take 16 (drop (16 * j) K)) x 16) here)
           ∙ ap (rounds c.args.hash K (extended first 48)) after,

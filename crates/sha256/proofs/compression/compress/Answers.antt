@@ -7,4 +7,4 @@ unfolding block_step
 returns c =
     let hash = c.args.hash in
     c.add.ensures
-    ∙ ap (added hash) (c.all-rounds-v.ensures ∙ ap (λ w. rounds hash K (extended w 48) 64) c.block-words-w.ensures)
+    ∙ ap (added hash) (c.all_rounds-v.ensures ∙ ap (λ w. rounds hash K (extended w 48) 64) c.block_words-w.ensures)
