@@ -5,7 +5,7 @@ use Rattle.account.proofs.words.push_text.Goals as goal
 
 pub loop-b-preserved : goal.loop-b-preserved
 loop-b-preserved c =
-    onward_at (string_bytes c.args.out.now) (encodes c.args.bytes.now) _ _ _ _ _ c.loop-b.invariant (text_more c.args.bytes.now c.loop-b.b-index (omega arith)) c.in-ok-push.ensures.bytes
+    onward_at (string_bytes c.args.out.now) (encodes c.args.bytes.now) _ _ _ _ _ c.loop-b.invariant (text_more c.args.bytes.now c.loop-b.b-index (omega arith)) c.in_ok-push.ensures.bytes
 
 pub returns : goal.returns
 returns c = finally (string_bytes c.args.out.now) (encodes c.args.bytes.now) _ _ c.loop-b.invariant (text_all c.args.bytes.now c.loop-b.b-index (omega arith))

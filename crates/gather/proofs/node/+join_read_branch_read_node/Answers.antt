@@ -11,67 +11,67 @@ use Rattle.gather.proofs.Tags.{tagged}
 use Rattle.gather.proofs.Steps.{behind_none, more_on, branch_within, branch_on, branch_fault, branch_mark, branch_below, step_fault, step_last, step_more, step_passes, behind_passes, under_passes, stops_by, built_err, read_mark, read_under, joins, some_behind}
 use Rattle.gather.proofs.node.+join_read_branch_read_node.Goals as goal
 
-pub read-branch-returns-in-err-content : goal.read-branch-returns-in-err-content
-read-branch-returns-in-err-content t c = record {
+pub read_branch-returns-in_err-content : goal.read_branch-returns-in_err-content
+read_branch-returns-in_err-content t c = record {
   same = c.item.ensures.same;
-  reads = built_err _ c.from-residual.result _ _ c.from-residual.ensures.1
-      (branch_fault c.args.depth c.args.size c.args.reader.now.file.now c.args.reader.now.at _ _ c.in-err-content.ensures.reads);
+  reads = built_err _ c.from_residual.result _ _ c.from_residual.ensures.1
+      (branch_fault c.args.depth c.args.size c.args.reader.now.file.now c.args.reader.now.at _ _ c.in_err-content.ensures.reads);
 }
 
-pub read-branch-mark-requires : goal.read-branch-mark-requires
-read-branch-mark-requires t c =
+pub read_branch-mark-requires : goal.read_branch-mark-requires
+read_branch-mark-requires t c =
     subst TaggedItem c.in-Attestation.is
-    (tagged _ c.args.depth c.args.size c.args.reader.now.file.now c.args.reader.now.at _ c.in-ok-content.ensures.reads)
+    (tagged _ c.args.depth c.args.size c.args.reader.now.file.now c.args.reader.now.at _ c.in_ok-content.ensures.reads)
 
-pub read-branch-returns-in-err-below : goal.read-branch-returns-in-err-below
-read-branch-returns-in-err-below t c =
-    let e = ap (λ i. got (piece i) c.item.new.self.at) (sym c.in-Operation.is) ∙ c.in-ok-content.ensures.reads in
+pub read_branch-returns-in_err-below : goal.read_branch-returns-in_err-below
+read_branch-returns-in_err-below t c =
+    let e = ap (λ i. got (piece i) c.item.new.self.at) (sym c.in-Operation.is) ∙ c.in_ok-content.ensures.reads in
     let b = branch_below c.args.depth c.args.size c.args.reader.now.file.now c.args.reader.now.at c.in-Operation.kind c.in-Operation.argument.now _ _ _ e in
-    let below : node_at (c.args.depth + 1) c.result-size-size.result c.item.new.self.file.now c.item.new.self.at
+    let below : node_at (c.args.depth + 1) c.result_size-size.result c.item.new.self.file.now c.item.new.self.at
     ≡ node_at (c.args.depth + 1) (result_size c.in-Operation.kind c.args.size (length c.in-Operation.argument.now)) c.args.reader.now.file.now c.item.new.self.at
-    = (λ i. node_at (c.args.depth + 1) (c.result-size-size.ensures i) (c.item.ensures.same i) c.item.new.self.at) in
+    = (λ i. node_at (c.args.depth + 1) (c.result_size-size.ensures i) (c.item.ensures.same i) c.item.new.self.at) in
     record {
-      same = c.read-node.ensures.same ∙ c.item.ensures.same;
-      reads = built_err _ c.from-residual-in-err-below.result _ _ c.from-residual-in-err-below.ensures.1
-          (stops_by (node_at (c.args.depth + 1) c.result-size-size.result c.item.new.self.file.now c.item.new.self.at) _ _
+      same = c.read_node.ensures.same ∙ c.item.ensures.same;
+      reads = built_err _ c.from_residual-in_err-below.result _ _ c.from_residual-in_err-below.ensures.1
+          (stops_by (node_at (c.args.depth + 1) c.result_size-size.result c.item.new.self.file.now c.item.new.self.at) _ _
           (λ m n h. b ∙ ap (λ z. then z (λ cs last. got (map (under (op_of c.in-Operation.kind c.in-Operation.argument.now)) cs) last)) (sym below ∙ h))
           (λ h. subst Passes (sym b) (under_passes c.in-Operation.kind c.in-Operation.argument.now _ (subst Passes below h)))
-          c.in-err-below.ensures.reads);
+          c.in_err-below.ensures.reads);
     }
 
-pub read-branch-returns-in-ok-mark : goal.read-branch-returns-in-ok-mark
-read-branch-returns-in-ok-mark t c =
-    let e = ap (λ i. got (piece i) c.item.new.self.at) (sym c.in-Attestation.is) ∙ c.in-ok-content.ensures.reads in
+pub read_branch-returns-in_ok-mark : goal.read_branch-returns-in_ok-mark
+read_branch-returns-in_ok-mark t c =
+    let e = ap (λ i. got (piece i) c.item.new.self.at) (sym c.in-Attestation.is) ∙ c.in_ok-content.ensures.reads in
     record {
       same = c.item.ensures.same;
       reads = read_mark _ _ (attested c.in-Attestation.content) _
           (branch_mark c.args.depth c.args.size c.args.reader.now.file.now c.args.reader.now.at (attested c.in-Attestation.content) _ _ _ _ e)
-          c.in-ok-mark.ensures;
+          c.in_ok-mark.ensures;
     }
 
-pub read-branch-returns-in-ok-branch : goal.read-branch-returns-in-ok-branch
-read-branch-returns-in-ok-branch t c =
-    let e = ap (λ i. got (piece i) c.item.new.self.at) (sym c.in-Operation.is) ∙ c.in-ok-content.ensures.reads in
+pub read_branch-returns-in_ok-branch : goal.read_branch-returns-in_ok-branch
+read_branch-returns-in_ok-branch t c =
+    let e = ap (λ i. got (piece i) c.item.new.self.at) (sym c.in-Operation.is) ∙ c.in_ok-content.ensures.reads in
     let b = branch_below c.args.depth c.args.size c.args.reader.now.file.now c.args.reader.now.at c.in-Operation.kind c.in-Operation.argument.now _ _ _ e in
-    let below : node_at (c.args.depth + 1) c.result-size-size.result c.item.new.self.file.now c.item.new.self.at
+    let below : node_at (c.args.depth + 1) c.result_size-size.result c.item.new.self.file.now c.item.new.self.at
     ≡ node_at (c.args.depth + 1) (result_size c.in-Operation.kind c.args.size (length c.in-Operation.argument.now)) c.args.reader.now.file.now c.item.new.self.at
-    = (λ i. node_at (c.args.depth + 1) (c.result-size-size.ensures i) (c.item.ensures.same i) c.item.new.self.at) in
+    = (λ i. node_at (c.args.depth + 1) (c.result_size-size.ensures i) (c.item.ensures.same i) c.item.new.self.at) in
     record {
-      same = c.read-node.ensures.same ∙ c.item.ensures.same;
+      same = c.read_node.ensures.same ∙ c.item.ensures.same;
       reads = read_under c.in-Operation.kind c.in-Operation.argument.now
-          (node_at (c.args.depth + 1) c.result-size-size.result c.item.new.self.file.now c.item.new.self.at) _ _ (node c.in-ok-below.below) _
+          (node_at (c.args.depth + 1) c.result_size-size.result c.item.new.self.file.now c.item.new.self.at) _ _ (node c.in_ok-below.below) _
           (b ∙ ap (λ z. then z (λ cs last. got (map (under (op_of c.in-Operation.kind c.in-Operation.argument.now)) cs) last)) (sym below))
-          c.in-ok-below.ensures.reads
-          c.in-ok-branch.ensures;
+          c.in_ok-below.ensures.reads
+          c.in_ok-branch.ensures;
     }
 
-pub read-node-loop-node-init : goal.read-node-loop-node-init
+pub read_node-loop-node-init : goal.read_node-loop-node-init
 unfolding gathered
-read-node-loop-node-init t c =
+read_node-loop-node-init t c =
     (refl, omega arith, [], (c.blank-node.ensures, behind_none (node_at c.args.depth c.args.size c.args.reader.now.file.now c.args.reader.now.at)))
 
-pub read-node-returns-in-err-node : goal.read-node-returns-in-err-node
-read-node-returns-in-err-node t c =
+pub read_node-returns-in_err-node : goal.read_node-returns-in_err-node
+read_node-returns-in_err-node t c =
     let f = c.loop-node.invariant.0 in
     let e : got c.more-more.result c.more-more.new.self.at ≡ more_at c.args.reader.now.file.now c.loop-node.reader.at
     = c.more-more.ensures.reads ∙ ap (λ z. more_at z c.loop-node.reader.at) f in
@@ -80,22 +80,22 @@ read-node-returns-in-err-node t c =
     = ap (λ z. branch_at c.args.depth c.args.size z c.more-more.new.self.at) (c.more-more.ensures.same ∙ f) in
     record {
       same = c.join.ensures.same ∙ (c.more-more.ensures.same ∙ f);
-      reads = built_err _ c.from-residual.result _ _ c.from-residual.ensures.1
+      reads = built_err _ c.from_residual.result _ _ c.from_residual.ensures.1
           (stops_by (branch_at c.args.depth c.args.size c.more-more.new.self.file.now c.more-more.new.self.at) _ _
           (λ m n d. sym c.loop-node.invariant.3.1 ∙ step_fault c.args.depth c.args.size c.args.reader.now.file.now c.loop-node.reader.at c.loop-node.invariant.2 _ _ e m n (sym b ∙ d))
           (λ d. subst Passes c.loop-node.invariant.3.1 (step_passes c.args.depth c.args.size c.args.reader.now.file.now c.loop-node.reader.at c.loop-node.invariant.2 _ _ e (subst Passes b d)))
-          c.in-err-node.ensures.reads);
+          c.in_err-node.ensures.reads);
     }
 
-pub read-node-returns-then-not-more : goal.read-node-returns-then-not-more
-read-node-returns-then-not-more t c =
+pub read_node-returns-then-not-more : goal.read_node-returns-then-not-more
+read_node-returns-then-not-more t c =
     let f = c.loop-node.invariant.0 in
     let e : got c.more-more.result c.more-more.new.self.at ≡ more_at c.args.reader.now.file.now c.loop-node.reader.at
     = c.more-more.ensures.reads ∙ ap (λ z. more_at z c.loop-node.reader.at) f in
     let b : branch_at c.args.depth c.args.size c.more-more.new.self.file.now c.more-more.new.self.at
     ≡ branch_at c.args.depth c.args.size c.args.reader.now.file.now c.more-more.new.self.at
     = ap (λ z. branch_at c.args.depth c.args.size z c.more-more.new.self.at) (c.more-more.ensures.same ∙ f) in
-    let h = c.in-ok-node.ensures.reads in
+    let h = c.in_ok-node.ensures.reads in
     record {
       same = c.join.ensures.same ∙ (c.more-more.ensures.same ∙ f);
       reads = record {
@@ -106,15 +106,15 @@ read-node-returns-then-not-more t c =
       };
     }
 
-pub read-node-returns-then-large : goal.read-node-returns-then-large
-read-node-returns-then-large t c =
+pub read_node-returns-then-large : goal.read_node-returns-then-large
+read_node-returns-then-large t c =
     let f = c.loop-node.invariant.0 in
     let e : got c.more-more.result c.more-more.new.self.at ≡ more_at c.args.reader.now.file.now c.loop-node.reader.at
     = c.more-more.ensures.reads ∙ ap (λ z. more_at z c.loop-node.reader.at) f in
     let b : branch_at c.args.depth c.args.size c.more-more.new.self.file.now c.more-more.new.self.at
     ≡ branch_at c.args.depth c.args.size c.args.reader.now.file.now c.more-more.new.self.at
     = ap (λ z. branch_at c.args.depth c.args.size z c.more-more.new.self.at) (c.more-more.ensures.same ∙ f) in
-    let h = c.in-ok-node.ensures.reads in
+    let h = c.in_ok-node.ensures.reads in
     let k = step_more c.args.depth c.args.size c.args.reader.now.file.now c.loop-node.reader.at c.loop-node.invariant.2 _ _ e h.1.0.claims _ (sym b ∙ h.1.0.reads) c.if-not-more.false in
     record {
       same = c.join.ensures.same ∙ (c.more-more.ensures.same ∙ f);
@@ -123,29 +123,29 @@ read-node-returns-then-large t c =
           (subst (λ z. fitting z ≡ false) (joins (node c.loop-node.node) h.0 _ c.loop-node.invariant.2 h.1.0.claims h.1.1 c.loop-node.invariant.3.0 h.1.0.tree) (c.large.ensures c.if-large.true)));
     }
 
-pub read-node-loop-node-smaller : goal.read-node-loop-node-smaller
-read-node-loop-node-smaller t c =
+pub read_node-loop-node-smaller : goal.read_node-loop-node-smaller
+read_node-loop-node-smaller t c =
     let f = c.loop-node.invariant.0 in
     let e : got c.more-more.result c.more-more.new.self.at ≡ more_at c.args.reader.now.file.now c.loop-node.reader.at
     = c.more-more.ensures.reads ∙ ap (λ z. more_at z c.loop-node.reader.at) f in
     let b : branch_at c.args.depth c.args.size c.more-more.new.self.file.now c.more-more.new.self.at
     ≡ branch_at c.args.depth c.args.size c.args.reader.now.file.now c.more-more.new.self.at
     = ap (λ z. branch_at c.args.depth c.args.size z c.more-more.new.self.at) (c.more-more.ensures.same ∙ f) in
-    let h = c.in-ok-node.ensures.reads in
+    let h = c.in_ok-node.ensures.reads in
     let m = more_on c.args.reader.now.file.now c.loop-node.reader.at _ _ e in
     let w = branch_within c.args.depth c.args.size c.args.reader.now.file.now c.more-more.new.self.at h.1.0.claims _ (sym b ∙ h.1.0.reads) in
     let n = branch_on c.args.depth c.args.size c.args.reader.now.file.now c.more-more.new.self.at h.1.0.claims _ (sym b ∙ h.1.0.reads) in
     omega (arith, m, w, n)
 
-pub read-node-loop-node-preserved : goal.read-node-loop-node-preserved
-read-node-loop-node-preserved t c =
+pub read_node-loop-node-preserved : goal.read_node-loop-node-preserved
+read_node-loop-node-preserved t c =
     let f = c.loop-node.invariant.0 in
     let e : got c.more-more.result c.more-more.new.self.at ≡ more_at c.args.reader.now.file.now c.loop-node.reader.at
     = c.more-more.ensures.reads ∙ ap (λ z. more_at z c.loop-node.reader.at) f in
     let b : branch_at c.args.depth c.args.size c.more-more.new.self.file.now c.more-more.new.self.at
     ≡ branch_at c.args.depth c.args.size c.args.reader.now.file.now c.more-more.new.self.at
     = ap (λ z. branch_at c.args.depth c.args.size z c.more-more.new.self.at) (c.more-more.ensures.same ∙ f) in
-    let h = c.in-ok-node.ensures.reads in
+    let h = c.in_ok-node.ensures.reads in
     let k = step_more c.args.depth c.args.size c.args.reader.now.file.now c.loop-node.reader.at c.loop-node.invariant.2 _ _ e h.1.0.claims _ (sym b ∙ h.1.0.reads) c.if-not-more.false in (
       c.join.ensures.same ∙ (c.more-more.ensures.same ∙ f),
       mod-lt (c.loop-node.items + 1) {m = 64} (let z : 0 < 64 = omega arith in z),

@@ -8,20 +8,20 @@ use Rattle.gather.proofs.node.+join_read_branch_read_node.Given as goal
 abbrev pub decreases-join : goal.decreases-join
 decreases-join l = 3 * (256 - l.depth) + 1
 
-abbrev pub decreases-read-branch : goal.decreases-read-branch
-decreases-read-branch l = 3 * (256 - l.depth)
+abbrev pub decreases-read_branch : goal.decreases-read_branch
+decreases-read_branch l = 3 * (256 - l.depth)
 
-abbrev pub decreases-read-node : goal.decreases-read-node
-decreases-read-node l = 3 * (256 - l.depth) + 2
+abbrev pub decreases-read_node : goal.decreases-read_node
+decreases-read_node l = 3 * (256 - l.depth) + 2
 
 -- the node is the tree of the claims so far; those behind it make up the claims of the whole node
-abbrev pub invariant-read-node-loop-node : goal.invariant-read-node-loop-node
-invariant-read-node-loop-node l =
+abbrev pub invariant-read_node-loop-node : goal.invariant-read_node-loop-node
+invariant-read_node-loop-node l =
     (l.reader.file.now ≡ l.initial.reader.file.now)
     × (l.items < 64)
     × (ds : List Claim) × ((node l.node ≡ gathered ds)
     × (behind ds (node_at l.depth l.size l.initial.reader.file.now l.reader.at)
     ≡ node_at l.depth l.size l.initial.reader.file.now l.initial.reader.at))
 
-abbrev pub decreases-read-node-loop-node : goal.decreases-read-node-loop-node
-decreases-read-node-loop-node l = length l.initial.reader.file.now - l.reader.at
+abbrev pub decreases-read_node-loop-node : goal.decreases-read_node-loop-node
+decreases-read_node-loop-node l = length l.initial.reader.file.now - l.reader.at

@@ -2,14 +2,14 @@ use Rattle.std.proofs.Common.{◌≡◌, ◌+◌, ◌-◌, ◌≤◌, [], take, 
 use Rattle.judge.specs.Working.{found}
 use Rattle.judge.proofs.Lines.{found_all, at_found, at_end, at_none, at_last}
 use Rattle.judge.proofs.calendar_judge.has_line.Goals as goal
-use Rattle.judge.proofs.calendar_judge.has_line.Goals.{then-text-i-eq-LINE-END+else-same, else-text-i-eq-LINE-END}
+use Rattle.judge.proofs.calendar_judge.has_line.Goals.{then-text-i-eq-LINE_END+else-same, else-text-i-eq-LINE_END}
 
 pub returns-then-same : goal.returns-then-same
 returns-then-same c =
     let text = c.args.text.now in
     let address = c.args.address.now in
     let line = take (c.loop-i.i - c.loop-i.start) (drop c.loop-i.start text) in
-    sym (at_found line text address c.loop-i.i c.loop-i-test.true c.if-text-i-eq-LINE-END.true (sym c.if-same.ensures))
+    sym (at_found line text address c.loop-i.i c.loop-i-test.true c.if-text-i-eq-LINE_END.true (sym c.if-same.ensures))
     ∙ c.loop-i.invariant.1 ∙ found_all text address
 
 pub loop-i-preserved : goal.loop-i-preserved
@@ -20,17 +20,17 @@ loop-i-preserved c =
     let start = c.loop-i.start in
     let line = take (i - start) (drop start text) in
     let so = λ (s : _). found (take (i + 1 - s) (drop s text)) (drop (i + 1) text) address in
-    elim c.if-text-i-eq-LINE-END.branch [
-      | then-text-i-eq-LINE-END+else-same w ↦ (
+    elim c.if-text-i-eq-LINE_END.branch [
+      | then-text-i-eq-LINE_END+else-same w ↦ (
         omega (arith, w.start-is),
         ap so w.start-is
-            ∙ sym (at_end line text address i c.loop-i-test.true w.if-text-i-eq-LINE-END.true (sym w.same.ensures ∙ w.if-same.false))
+            ∙ sym (at_end line text address i c.loop-i-test.true w.if-text-i-eq-LINE_END.true (sym w.same.ensures ∙ w.if-same.false))
             ∙ c.loop-i.invariant.1,
       )
-      | else-text-i-eq-LINE-END w ↦ (
+      | else-text-i-eq-LINE_END w ↦ (
         omega (arith, w.start-is),
         ap so w.start-is
-            ∙ sym (at_none text address start i c.loop-i.invariant.0 c.loop-i-test.true w.if-text-i-eq-LINE-END.false)
+            ∙ sym (at_none text address start i c.loop-i.invariant.0 c.loop-i-test.true w.if-text-i-eq-LINE_END.false)
             ∙ c.loop-i.invariant.1,
       )
     ]

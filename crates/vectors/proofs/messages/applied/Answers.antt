@@ -7,11 +7,11 @@ use Rattle.vectors.proofs.messages.applied.Goals as goal
 pub returns : goal.returns
 returns c =
     let m = c.args.message.now in
-    let is : c.copy-from-slice.new.self ≡ m = c.copy-from-slice.ensures.after in
+    let is : c.copy_from_slice.new.self ≡ m = c.copy_from_slice.ensures.after in
     record {
       bound = omega arith;
       message =
           c.apply.ensures.message
           ∙ ap (apply (op_of c.args.kind c.args.argument.now))
-          (front_take c.args.area.now c.copy-from-slice.new.self (length m - 0) (length m) (ap length is) ∙ is);
+          (front_take c.args.area.now c.copy_from_slice.new.self (length m - 0) (length m) (ap length is) ∙ is);
     }

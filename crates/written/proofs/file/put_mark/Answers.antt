@@ -3,4 +3,4 @@ use Rattle.written.proofs.file.put_mark.Goals as goal
 
 pub returns : goal.returns
 unfolding mark
-returns c = record { next = c.put-bytes.ensures.next; front = c.put-bytes.ensures.front }
+returns c = record { next = c.put_bytes.ensures.next; front = c.put_bytes.ensures.front }

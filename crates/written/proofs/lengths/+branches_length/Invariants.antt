@@ -1,5 +1,5 @@
 use Rattle.claims.proofs.tree.Branches.TheLaws.{the_size}
 use Rattle.written.proofs.lengths.+branches_length.Given as goal
 
-abbrev pub decreases-branches-length : goal.decreases-branches-length
-decreases-branches-length l = the_size l.b.now
+abbrev pub decreases-branches_length : goal.decreases-branches_length
+decreases-branches_length l = the_size l.b.now
