@@ -23,8 +23,8 @@ read_branch-mark-requires t c =
     subst TaggedItem c.in-Attestation.is
     (tagged _ c.args.depth c.args.size c.args.reader.now.file.now c.args.reader.now.at _ c.in_ok-content.ensures.reads)
 
-pub read_branch-returns-in_err-below : goal.read_branch-returns-in_err-below
-read_branch-returns-in_err-below t c =
+pub read_branch-returns-in_err-below-in-Operation : goal.read_branch-returns-in_err-below-in-Operation
+read_branch-returns-in_err-below-in-Operation t c =
     let e = ap (λ i. got (piece i) c.item.new.self.at) (sym c.in-Operation.is) ∙ c.in_ok-content.ensures.reads in
     let b = branch_below c.args.depth c.args.size c.args.reader.now.file.now c.args.reader.now.at c.in-Operation.kind c.in-Operation.argument.now _ _ _ e in
     let below : node_at (c.args.depth + 1) c.result_size-size.result c.item.new.self.file.now c.item.new.self.at
@@ -32,25 +32,25 @@ read_branch-returns-in_err-below t c =
     = (λ i. node_at (c.args.depth + 1) (c.result_size-size.ensures i) (c.item.ensures.same i) c.item.new.self.at) in
     record {
       same = c.read_node.ensures.same ∙ c.item.ensures.same;
-      reads = built_err _ c.from_residual-in_err-below.result _ _ c.from_residual-in_err-below.ensures.1
+      reads = built_err _ c.from_residual-in_err-below-in-Operation.result _ _ c.from_residual-in_err-below-in-Operation.ensures.1
           (stops_by (node_at (c.args.depth + 1) c.result_size-size.result c.item.new.self.file.now c.item.new.self.at) _ _
           (λ m n h. b ∙ ap (λ z. then z (λ cs last. got (map (under (op_of c.in-Operation.kind c.in-Operation.argument.now)) cs) last)) (sym below ∙ h))
           (λ h. subst Passes (sym b) (under_passes c.in-Operation.kind c.in-Operation.argument.now _ (subst Passes below h)))
-          c.in_err-below.ensures.reads);
+          c.in_err-below-in-Operation.ensures.reads);
     }
 
-pub read_branch-returns-in_ok-mark : goal.read_branch-returns-in_ok-mark
-read_branch-returns-in_ok-mark t c =
+pub read_branch-returns-in_ok-mark-in-Attestation : goal.read_branch-returns-in_ok-mark-in-Attestation
+read_branch-returns-in_ok-mark-in-Attestation t c =
     let e = ap (λ i. got (piece i) c.item.new.self.at) (sym c.in-Attestation.is) ∙ c.in_ok-content.ensures.reads in
     record {
       same = c.item.ensures.same;
       reads = read_mark _ _ (attested c.in-Attestation.content) _
           (branch_mark c.args.depth c.args.size c.args.reader.now.file.now c.args.reader.now.at (attested c.in-Attestation.content) _ _ _ _ e)
-          c.in_ok-mark.ensures;
+          c.in_ok-mark-in-Attestation.ensures;
     }
 
-pub read_branch-returns-in_ok-branch : goal.read_branch-returns-in_ok-branch
-read_branch-returns-in_ok-branch t c =
+pub read_branch-returns-in_ok-branch-in-Operation : goal.read_branch-returns-in_ok-branch-in-Operation
+read_branch-returns-in_ok-branch-in-Operation t c =
     let e = ap (λ i. got (piece i) c.item.new.self.at) (sym c.in-Operation.is) ∙ c.in_ok-content.ensures.reads in
     let b = branch_below c.args.depth c.args.size c.args.reader.now.file.now c.args.reader.now.at c.in-Operation.kind c.in-Operation.argument.now _ _ _ e in
     let below : node_at (c.args.depth + 1) c.result_size-size.result c.item.new.self.file.now c.item.new.self.at
@@ -59,10 +59,10 @@ read_branch-returns-in_ok-branch t c =
     record {
       same = c.read_node.ensures.same ∙ c.item.ensures.same;
       reads = read_under c.in-Operation.kind c.in-Operation.argument.now
-          (node_at (c.args.depth + 1) c.result_size-size.result c.item.new.self.file.now c.item.new.self.at) _ _ (node c.in_ok-below.below) _
+          (node_at (c.args.depth + 1) c.result_size-size.result c.item.new.self.file.now c.item.new.self.at) _ _ (node c.in_ok-below-in-Operation.below) _
           (b ∙ ap (λ z. then z (λ cs last. got (map (under (op_of c.in-Operation.kind c.in-Operation.argument.now)) cs) last)) (sym below))
-          c.in_ok-below.ensures.reads
-          c.in_ok-branch.ensures;
+          c.in_ok-below-in-Operation.ensures.reads
+          c.in_ok-branch-in-Operation.ensures;
     }
 
 pub read_node-loop-node-init : goal.read_node-loop-node-init

@@ -12,7 +12,7 @@ returns-then-k-eq0 t c =
 
 pub returns-else-k-eq0 : goal.returns-else-k-eq0
 returns-else-k-eq0 t c =
-    c.mark-at.ensures
+    c.mark_at.ensures
     ∙ ap (λ z. slice_get (atts z.rest) (c.args.k - 1)) c.deref-else-k-eq0.ensures
     ∙ nth_next (att c.in-Next.mark.value.attestation) (atts c.in-Next.mark.value.rest) (atts c.args.marks.now) c.args.k (c.args.k - 1)
     (ap atts c.in-Next.is) (omega arith)

@@ -16,16 +16,16 @@ loop-read-init g c =
     counting_none (verdict_on (g.J.Judge.meaning c.args.judge.now) c.args.digest.now) (claims m t) c.args.work.now c.args.row c.args.tally
     few c.requires.1.1
 
-pub counted-so-far-requires : goal.counted-so-far-requires
-counted-so-far-requires g c =
+pub counted-so_far-requires : goal.counted-so_far-requires
+counted-so_far-requires g c =
     let cs = claims (atts c.args.top.now.marks) (tree c.args.top.now.branches) in
     let b = row_below (g.J.Judge.meaning c.args.judge.now) c.args.digest.now cs c.loop-read.k c.in-Some.read c.in-Some.ensures.value in
     let f = c.loop-read.invariant.few in
     let w = c.loop-read.invariant.within in
     (omega arith, (omega arith, (omega arith, omega arith)))
 
-pub overflow-add-k : goal.overflow-add-k
-overflow-add-k g c =
+pub overflow_add-k : goal.overflow_add-k
+overflow_add-k g c =
     let cs = claims (atts c.args.top.now.marks) (tree c.args.top.now.branches) in
     let b = row_below (g.J.Judge.meaning c.args.judge.now) c.args.digest.now cs c.loop-read.k c.in-Some.read c.in-Some.ensures.value in
     let f = c.loop-read.invariant.few in
@@ -40,13 +40,13 @@ loop-read-smaller g c =
 pub loop-read-preserved : goal.loop-read-preserved
 loop-read-preserved g c =
     let cs = claims (atts c.args.top.now.marks) (tree c.args.top.now.branches) in
-    counting_more (g.J.Judge.meaning c.args.judge.now) c.args.digest.now cs c.loop-read.invariant c.row-of.new.work
-    c.in-Some.ensures.value (omega arith) c.row-of.ensures.kept c.counted-so-far.ensures
+    counting_more (g.J.Judge.meaning c.args.judge.now) c.args.digest.now cs c.loop-read.invariant c.row_of.new.work
+    c.in-Some.ensures.value (omega arith) c.row_of.ensures.kept c.counted-so_far.ensures
 
 pub returns : goal.returns
 returns g c =
     let cs = claims (atts c.args.top.now.marks) (tree c.args.top.now.branches) in
     record {
-      value = counting_all (g.J.Judge.meaning c.args.judge.now) c.args.digest.now cs c.loop-read.invariant c.in-default.ensures.value;
-      kept = c.row-of.ensures.kept ∙ c.loop-read.invariant.kept;
+      value = counting_all (g.J.Judge.meaning c.args.judge.now) c.args.digest.now cs c.loop-read.invariant c.in_default.ensures.value;
+      kept = c.row_of.ensures.kept ∙ c.loop-read.invariant.kept;
     }

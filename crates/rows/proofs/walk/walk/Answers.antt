@@ -21,8 +21,8 @@ returns-in-Some c =
       kept = refl;
     }
 
-pub overflow-sub-k : goal.overflow-sub-k
-overflow-sub-k c = omega (arith, nth_none (atts c.args.top.now.marks) c.args.row c.in-default.ensures)
+pub overflow_sub-k : goal.overflow_sub-k
+overflow_sub-k c = omega (arith, nth_none (atts c.args.top.now.marks) c.args.row c.in_default.ensures)
 
 pub loop-branches-init : goal.loop-branches-init
 loop-branches-init c = record {
@@ -32,7 +32,7 @@ loop-branches-init c = record {
   fits = c.requires.branches;
   few = omega (arith, c.requires.few);
   finds = ap (shown 0 (take c.args.start c.args.work.now))
-      (past_marks (atts c.args.top.now.marks) (tree c.args.top.now.branches) c.args.row c.count-marks.result c.in-default.ensures c.count-marks.ensures);
+      (past_marks (atts c.args.top.now.marks) (tree c.args.top.now.branches) c.args.row c.count_marks.result c.in_default.ensures c.count_marks.ensures);
 }
 
 pub returns-in-End : goal.returns-in-End
@@ -45,39 +45,39 @@ returns-in-End c = record {
 pub loop-branches-preserved-then-k-n : goal.loop-branches-preserved-then-k-n
 loop-branches-preserved-then-k-n c =
     let e : tree c.loop-branches.branches.now ≡ of-branch c.deref-branch.result.now = ap tree c.in-More.is ∙ ap of-branch (sym c.deref-branch.ensures) in
-    walk_on c.loop-branches.invariant e c.count-node-n.ensures c.if-k-n.true
+    walk_on c.loop-branches.invariant e c.count_node-n.ensures c.if-k-n.true
 
 pub step-size-requires : goal.step-size-requires
 step-size-requires c =
     let i = c.loop-branches.invariant in
     let e : tree c.loop-branches.branches.now ≡ of-branch c.deref-branch.result.now = ap tree c.in-More.is ∙ ap of-branch (sym c.deref-branch.ensures) in
-    (omega (arith, i.long, c.requires.area.0), (i.small, (fitting i e c.count-node-n.ensures).result))
+    (omega (arith, i.long, c.requires.area.0), (i.small, (fitting i e c.count_node-n.ensures).result))
 
-pub overflow-add-operations : goal.overflow-add-operations
-overflow-add-operations c =
+pub overflow_add-operations : goal.overflow_add-operations
+overflow_add-operations c =
     let e : tree c.loop-branches.branches.now ≡ of-branch c.deref-branch.result.now = ap tree c.in-More.is ∙ ap of-branch (sym c.deref-branch.ensures) in
-    let s : c.loop-branches.operations < 255 = (fitting c.loop-branches.invariant e c.count-node-n.ensures).shallow in
+    let s : c.loop-branches.operations < 255 = (fitting c.loop-branches.invariant e c.count_node-n.ensures).shallow in
     omega arith
 
-pub returns-in-Some-mark-at : goal.returns-in-Some-mark-at
-returns-in-Some-mark-at c =
+pub returns-in-Some-mark_at : goal.returns-in-Some-mark_at
+returns-in-Some-mark_at c =
     let i = c.loop-branches.invariant in
     let s = c.step-size.ensures in
-    let n = c.count-node-n.ensures in
+    let n = c.count_node-n.ensures in
     let e : tree c.loop-branches.branches.now ≡ of-branch c.deref-branch.result.now = ap tree c.in-More.is ∙ ap of-branch (sym c.deref-branch.ensures) in
-    let a = att c.in-Some-mark-at.attestation.now in
+    let a = att c.in-Some-mark_at.attestation.now in
     record {
-      finds = walk_found i e n c.step-size.new.work c.if-k-n.false (omega arith) s.kept s.value s.message a c.in-Some-mark-at.ensures;
-      sound = (found_fits i e n a c.in-Some-mark-at.ensures, found_small i e n s.value);
+      finds = walk_found i e n c.step-size.new.work c.if-k-n.false (omega arith) s.kept s.value s.message a c.in-Some-mark_at.ensures;
+      sound = (found_fits i e n a c.in-Some-mark_at.ensures, found_small i e n s.value);
       kept = s.kept ∙ i.kept;
     }
 
-pub overflow-sub-k-else-k-n : goal.overflow-sub-k-else-k-n
-overflow-sub-k-else-k-n c = omega (arith, nth_none (atts c.deref-branch.result.now.below.marks) c.loop-branches.k c.in-default-mark-at.ensures)
+pub overflow_sub-k-else-k-n : goal.overflow_sub-k-else-k-n
+overflow_sub-k-else-k-n c = omega (arith, nth_none (atts c.deref-branch.result.now.below.marks) c.loop-branches.k c.in_default-mark_at.ensures)
 
 pub loop-branches-preserved : goal.loop-branches-preserved
 loop-branches-preserved c =
     let s = c.step-size.ensures in
     let e : tree c.loop-branches.branches.now ≡ of-branch c.deref-branch.result.now = ap tree c.in-More.is ∙ ap of-branch (sym c.deref-branch.ensures) in
-    walk_down c.loop-branches.invariant e c.count-node-n.ensures c.step-size.new.work c.if-k-n.false (omega arith) s.kept s.value s.message
-    c.in-default-mark-at.ensures c.count-marks-k.ensures
+    walk_down c.loop-branches.invariant e c.count_node-n.ensures c.step-size.new.work c.if-k-n.false (omega arith) s.kept s.value s.message
+    c.in_default-mark_at.ensures c.count_marks-k.ensures

@@ -10,7 +10,7 @@ pub loop-b-preserved : goal.loop-b-preserved
 loop-b-preserved c =
     let b = get_or c.args.bytes.now c.loop-b.b-index 0 in (
       omega arith,
-      c.put-pair-next.ensures.front
+      c.put_pair-next.ensures.front
           ∙ (ap (λ z. (z ++ (digit (b / 16) ∷ [])) ++ (digit (b % 16) ∷ [])) c.loop-b.invariant.1
           ∙ more_put (take c.args.at c.args.out.now) c.args.bytes.now c.loop-b.b-index c.loop-b-test.true),
     )
