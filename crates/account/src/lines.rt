@@ -4,7 +4,7 @@ ghost use Rattle.proof.specs.Pieces.{piece, attested};
 ghost use Rattle.format.specs.Files.{head};
 ghost use Rattle.proof.specs.Counted.{counted};
 ghost use Rattle.account.specs.Words.{hex_of};
-ghost use Rattle.account.specs.Lines.{kind_word, indent, part as partText, operation_line, content_text, item_line, digest_line, message_line, root_line, counts_line, of_limit, size_line, canonical_line};
+ghost use Rattle.account.specs.Lines.{kind_word, indent, part as part_text, operation_line, content_text, item_line, digest_line, message_line, root_line, counts_line, of_limit, size_line, canonical_line};
 
 use crate::words::{hex, spaces, text};
 use format::Kind;
@@ -27,7 +27,7 @@ fn kind_word(kind: Kind) -> &'static str
 
 // How long a part of the file is, and where it begins.
 fn part(heap: Global, size: usize, first: usize) -> Result<String, AllocError>
-    ensures { IfOk result (λ s. string_bytes s ≡ partText size first) }
+    ensures { IfOk result (λ s. string_bytes s ≡ part_text size first) }
 {
     format!(in heap; " ({size} at {first})")
 }
@@ -77,7 +77,7 @@ fn attestation_line(
     offset: usize,
     first: usize,
 ) -> Result<String, AllocError>
-    ensures { IfOk result (λ s. string_bytes s ≡ indent depth ++ (decimal offset ++ (codes " " ++ (content_text (attested content.now) ++ partText size first)))) }
+    ensures { IfOk result (λ s. string_bytes s ≡ indent depth ++ (decimal offset ++ (codes " " ++ (content_text (attested content.now) ++ part_text size first)))) }
 {
     let indent = spaces(heap, 2 * depth as usize)?;
     let content = content_text(heap, content)?;

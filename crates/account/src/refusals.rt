@@ -1,7 +1,7 @@
 // What is said of a refused file: the fault in words, the bytes around it, and the line that every implementation prints.
 ghost use Rattle.std.specs.Prelude.{◌≡◌, ◌+◌, length, IfOk, string_bytes};
 ghost use Rattle.proof.specs.Faults.{numbered};
-ghost use Rattle.account.specs.Refusals.{meaning as meaningText, refused_line, fault_line, around_line};
+ghost use Rattle.account.specs.Refusals.{meaning as meaning_text, refused_line, fault_line, around_line};
 
 use crate::words::hex;
 use proof::fault::Fault;
@@ -9,7 +9,7 @@ use std::alloc::{AllocError, Global};
 
 // What a fault means.
 pub fn meaning(fault: &Fault) -> &'static str
-    ensures { result.now ≡ meaningText fault.now }
+    ensures { result.now ≡ meaning_text fault.now }
 {
     match *fault {
         Fault::Long => "file too long",
@@ -28,7 +28,7 @@ pub fn meaning(fault: &Fault) -> &'static str
 }
 
 pub fn fault_line(heap: Global, fault: &Fault) -> Result<String, AllocError>
-    ensures { IfOk result (λ s. string_bytes s ≡ fault_line (numbered fault.now).0 (meaningText fault.now)) }
+    ensures { IfOk result (λ s. string_bytes s ≡ fault_line (numbered fault.now).0 (meaning_text fault.now)) }
 {
     let number = fault.number();
     let words = meaning(fault);

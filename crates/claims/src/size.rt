@@ -2,7 +2,7 @@
 ghost use Rattle.std.specs.Prelude.{◌≡◌, ◌≤◌, length};
 ghost use Rattle.claim_trees.specs.Bytes.{shortest};
 ghost use Rattle.claim_trees.specs.Onto.{payload_length};
-ghost use Rattle.claim_trees.specs.Size.{within as withinLimits};
+ghost use Rattle.claim_trees.specs.Size.{within as within_limits};
 ghost use Rattle.claim_trees.specs.Union.{unite, unify, union};
 ghost use Rattle.claims.specs.Models.{op, att, atts, tree, node};
 ghost use Rattle.claims.specs.Sizes.{amount, capped, cap, plus as added, zero, of_op, of_att, of_marks, of_tree, of_node, size_in, size_in_both};
@@ -28,7 +28,7 @@ pub struct Size {
 // The size of what a node holds.
 pub fn size_of(n: &Node) -> Size
     ensures size { amount result ≡ cap (size_in (node n.now)) }
-    ensures limits { withinLimits (amount result) ≡ withinLimits (size_in (node n.now)) }
+    ensures limits { within_limits (amount result) ≡ within_limits (size_in (node n.now)) }
 {
     let _summed = summed(n);
     plus(of_marks(&n.marks), of_branches(&n.branches))
@@ -37,7 +37,7 @@ pub fn size_of(n: &Node) -> Size
 // The size of the union, what both hold counted once.
 pub fn size_of_both(x: &Node, y: &Node) -> Size
     ensures size { amount result ≡ cap (size_in_both (node x.now) (node y.now)) }
-    ensures limits { withinLimits (amount result) ≡ withinLimits (size_in_both (node x.now) (node y.now)) }
+    ensures limits { within_limits (amount result) ≡ within_limits (size_in_both (node x.now) (node y.now)) }
 {
     let _summed = summed_both(x, y);
     let marks = of_both_marks(&x.marks, &y.marks);
@@ -46,21 +46,21 @@ pub fn size_of_both(x: &Node, y: &Node) -> Size
 
 // Whether no limit is passed.
 pub fn within(s: &Size) -> bool
-    ensures { result ≡ withinLimits (amount s.now) }
+    ensures { result ≡ within_limits (amount s.now) }
 {
     s.operations <= OPERATIONS && s.attestations <= ATTESTATIONS && s.bytes <= BYTES
 }
 
 // Whether what a node holds passes no limit.
 pub fn fits(n: &Node) -> bool
-    ensures { result ≡ withinLimits (size_in (node n.now)) }
+    ensures { result ≡ within_limits (size_in (node n.now)) }
 {
     within(&size_of(n))
 }
 
 // Whether the union passes no limit.
 pub fn both_fit(x: &Node, y: &Node) -> bool
-    ensures { result ≡ withinLimits (size_in_both (node x.now) (node y.now)) }
+    ensures { result ≡ within_limits (size_in_both (node x.now) (node y.now)) }
 {
     within(&size_of_both(x, y))
 }
@@ -68,14 +68,14 @@ pub fn both_fit(x: &Node, y: &Node) -> bool
 // Adding up item by item gives the size.
 fn summed(n: &Node) -> u8
     ensures size { of_node (node n.now) ≡ cap (size_in (node n.now)) }
-    ensures limits { withinLimits (cap (size_in (node n.now))) ≡ withinLimits (size_in (node n.now)) }
+    ensures limits { within_limits (cap (size_in (node n.now))) ≡ within_limits (size_in (node n.now)) }
 {
     0
 }
 
 fn summed_both(x: &Node, y: &Node) -> u8
     ensures size { of_node (union (node x.now) (node y.now)) ≡ cap (size_in_both (node x.now) (node y.now)) }
-    ensures limits { withinLimits (cap (size_in_both (node x.now) (node y.now))) ≡ withinLimits (size_in_both (node x.now) (node y.now)) }
+    ensures limits { within_limits (cap (size_in_both (node x.now) (node y.now))) ≡ within_limits (size_in_both (node x.now) (node y.now)) }
 {
     0
 }

@@ -1,6 +1,6 @@
 // The options of a file of headers: what its first header is held to be.
 ghost use Rattle.std.specs.Prelude.{◌≡◌, ℕ, ◌+◌, ◌*◌};
-ghost use Rattle.coverage.specs.Options.{with_pair, given as givenAs, main_chain, parsed};
+ghost use Rattle.coverage.specs.Options.{with_pair, given as given_as, main_chain, parsed};
 
 use crate::reading::{bits, hash, number};
 use proof::attestations::same;
@@ -62,7 +62,7 @@ pub fn parse(count: usize, first: Pair, second: Pair, third: Pair) -> Result<Opt
 
 // The options after the pair at a place, if there is one.
 fn given(count: usize, place: usize, pair: Pair, options: Options) -> Result<Options, Wrong>
-    ensures { result ≡ givenAs count place pair.entry.option.now pair.entry.value.now options }
+    ensures { result ≡ given_as count place pair.entry.option.now pair.entry.value.now options }
 {
     if count / 2 < place {
         return Ok(options);

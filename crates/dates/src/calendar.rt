@@ -1,9 +1,9 @@
 // The calendar: leap years, and the lengths of years and months.
 ghost use Rattle.std.specs.Prelude.{◌≡◌, ◌≤◌};
-ghost use Rattle.dates.specs.Calendar.{leap as leapYear, year_days, month_days};
+ghost use Rattle.dates.specs.Calendar.{leap as leap_year, year_days, month_days};
 
 pub fn leap(year: u16) -> bool
-    ensures { result ≡ leapYear year }
+    ensures { result ≡ leap_year year }
 {
     year % 4 == 0 && year % 100 != 0 || year % 400 == 0
 }

@@ -1,6 +1,6 @@
 // A date and time as text.
 ghost use Rattle.std.specs.Prelude.{◌≡◌};
-ghost use Rattle.dates.specs.Text.{digit as digitOf, text_of};
+ghost use Rattle.dates.specs.Text.{digit as digit_of, text_of};
 
 use crate::time::Utc;
 
@@ -37,7 +37,7 @@ pub fn text(u: Utc) -> [u8; 23]
 
 // The lowest decimal digit.
 fn digit(n: u16) -> u8
-    ensures { result ≡ digitOf n }
+    ensures { result ≡ digit_of n }
 {
     b'0' + (n % 10) as u8
 }

@@ -1,7 +1,7 @@
 // Adding a file: it is read, compared and measured before anything of the dossier moves.
 ghost use Rattle.std.specs.Prelude.{◌≡◌, true, length};
 ghost use Rattle.claim_trees.specs.Size.{size_of};
-ghost use Rattle.claim_trees.specs.Union.{union as unionOf};
+ghost use Rattle.claim_trees.specs.Union.{union as union_of};
 ghost use Rattle.claims.specs.Models.{node as node_of};
 ghost use Rattle.claims.specs.Sizes.{size_in_both};
 ghost use Rattle.gather.specs.Trees.{Heads};
@@ -34,14 +34,14 @@ fn agreeing(held: &Held, digest: &[u8]) -> bool
 
 // The law that two trees walked together have the size of their union.
 fn sized(x: &Node, y: &Node) -> u8
-    ensures { size_in_both (node_of x.now) (node_of y.now) ≡ size_of (unionOf (node_of x.now) (node_of y.now)).marks (unionOf (node_of x.now) (node_of y.now)).branches }
+    ensures { size_in_both (node_of x.now) (node_of y.now) ≡ size_of (union_of (node_of x.now) (node_of y.now)).marks (union_of (node_of x.now) (node_of y.now)).branches }
 {
     0
 }
 
 // Whether the union with a node passes no limit.
 fn fitting(held: &Held, node: &Node) -> bool
-    ensures { result ≡ small (unionOf (tree_in (content_of held.now)) (node_of node.now)) }
+    ensures { result ≡ small (union_of (tree_in (content_of held.now)) (node_of node.now)) }
 {
     match held {
         Held::Blank => fits(node),
@@ -54,7 +54,7 @@ fn fitting(held: &Held, node: &Node) -> bool
 
 // The claims of both on this digest.
 fn joined(held: Held, digest: [u8; 32], node: Node) -> Held
-    ensures { content_of result ≡ about digest (unionOf (tree_in (content_of held)) (node_of node)) }
+    ensures { content_of result ≡ about digest (union_of (tree_in (content_of held)) (node_of node)) }
 {
     match held {
         Held::Blank => Held::About { digest, top: node },

@@ -21,7 +21,7 @@ pub(crate) fn row<J: Judge>(
     work: &mut [u8],
 ) -> Result<Row, Refusal>
     requires { keeps (content_of held.now) ≡ true }
-    ensures { Read (content_of held.now) (meaning judge.now) k work.old (answered result) work.new }
+    ensures { Read (content_of held.now) (J.meaning judge.now) k work.old (answered result) work.new }
 {
     if work.len() < ROOM {
         return Err(Refusal::Work);
@@ -32,7 +32,7 @@ pub(crate) fn row<J: Judge>(
 
 fn row_in<J: Judge>(held: &Held, judge: &J, k: usize, work: &mut [u8]) -> Result<Row, Refusal>
     requires { (keeps (content_of held.now) ≡ true) × (4096 ≤ length work.old) }
-    ensures value { answered result ≡ as_row (slice_get (rows_in (meaning judge.now) (content_of held.now)) k) }
+    ensures value { answered result ≡ as_row (slice_get (rows_in (J.meaning judge.now) (content_of held.now)) k) }
     ensures kept { drop 4096 work.new ≡ drop 4096 work.old }
 {
     match held {
@@ -46,7 +46,7 @@ fn row_in<J: Judge>(held: &Held, judge: &J, k: usize, work: &mut [u8]) -> Result
 
 pub(crate) fn tally<J: Judge>(held: &Held, judge: &J, work: &mut [u8]) -> Result<Tally, Refusal>
     requires { keeps (content_of held.now) ≡ true }
-    ensures { Tallied (content_of held.now) (meaning judge.now) work.old (answered result) work.new }
+    ensures { Tallied (content_of held.now) (J.meaning judge.now) work.old (answered result) work.new }
 {
     if work.len() < ROOM {
         return Err(Refusal::Work);
@@ -70,7 +70,7 @@ pub(crate) fn nothing() -> Tally
 
 fn tally_in<J: Judge>(held: &Held, judge: &J, work: &mut [u8]) -> Tally
     requires { (keeps (content_of held.now) ≡ true) × (4096 ≤ length work.old) }
-    ensures value { result ≡ tally_in (meaning judge.now) (content_of held.now) }
+    ensures value { result ≡ tally_in (J.meaning judge.now) (content_of held.now) }
     ensures kept { drop 4096 work.new ≡ drop 4096 work.old }
 {
     match held {

@@ -23,7 +23,7 @@ pub(crate) fn sheet<J: Judge>(
     work: &mut [u8],
 ) -> Result<usize, Refusal>
     requires { keeps (content_of held.now) ≡ true }
-    ensures { Listed (content_of held.now) (meaning judge.now) out.old work.old (answered result) out.new work.new }
+    ensures { Listed (content_of held.now) (J.meaning judge.now) out.old work.old (answered result) out.new work.new }
 {
     if work.len() < ROOM {
         return Err(Refusal::Work);
@@ -39,8 +39,8 @@ fn sheet_in<J: Judge>(
     work: &mut [u8],
 ) -> Result<usize, Refusal>
     requires { (keeps (content_of held.now) ≡ true) × (4096 ≤ length work.old) }
-    ensures answer { answered result ≡ fitted (sheet_in (meaning judge.now) (content_of held.now)) out.old }
-    ensures out { out.new ≡ placed (sheet_in (meaning judge.now) (content_of held.now)) out.old }
+    ensures answer { answered result ≡ fitted (sheet_in (J.meaning judge.now) (content_of held.now)) out.old }
+    ensures out { out.new ≡ placed (sheet_in (J.meaning judge.now) (content_of held.now)) out.old }
     ensures kept { drop 4096 work.new ≡ drop 4096 work.old }
 {
     let due = due(held, judge, work);
@@ -53,7 +53,7 @@ fn sheet_in<J: Judge>(
 
 fn due<J: Judge>(held: &Held, judge: &J, work: &mut [u8]) -> usize
     requires { (keeps (content_of held.now) ≡ true) × (4096 ≤ length work.old) }
-    ensures value { result ≡ length (sheet_in (meaning judge.now) (content_of held.now)) }
+    ensures value { result ≡ length (sheet_in (J.meaning judge.now) (content_of held.now)) }
     ensures kept { drop 4096 work.new ≡ drop 4096 work.old }
 {
     match held {
@@ -64,8 +64,8 @@ fn due<J: Judge>(held: &Held, judge: &J, work: &mut [u8]) -> usize
 
 // Into an area that is exactly as long.
 fn put<J: Judge>(held: &Held, judge: &J, out: &mut [u8], work: &mut [u8])
-    requires { (keeps (content_of held.now) ≡ true) × ((4096 ≤ length work.old) × (length out.old ≡ length (sheet_in (meaning judge.now) (content_of held.now)))) }
-    ensures out { out.new ≡ sheet_in (meaning judge.now) (content_of held.now) }
+    requires { (keeps (content_of held.now) ≡ true) × ((4096 ≤ length work.old) × (length out.old ≡ length (sheet_in (J.meaning judge.now) (content_of held.now)))) }
+    ensures out { out.new ≡ sheet_in (J.meaning judge.now) (content_of held.now) }
     ensures kept { drop 4096 work.new ≡ drop 4096 work.old }
 {
     match held {

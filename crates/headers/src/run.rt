@@ -1,7 +1,7 @@
 // The run of headers from the first one on.
 ghost use Rattle.std.specs.Prelude.{◌≡◌, ℕ, ◌+◌, ◌*◌, ◌≤◌, length, MatchOption};
 ghost use Rattle.headers.specs.Targets.{little};
-ghost use Rattle.headers.specs.Steps.{end_at, tested as testedAs, step_at};
+ghost use Rattle.headers.specs.Steps.{end_at, tested as tested_as, step_at};
 ghost use Rattle.headers.specs.Following.{run_of, walked};
 
 use crate::ending::{Ending, Run};
@@ -78,7 +78,7 @@ fn end(base: u32, size: usize, k: usize) -> Option<Ending>
 // The tests on a header that has to name the hash before, with no target above most.
 fn tested(most: &[u8], before: &[u8], header: &[u8]) -> Result<[u8; 32], Ending>
     requires { (length most.now ≡ 32) × (length header.now ≡ 80) }
-    ensures { result ≡ testedAs (little most.now) before.now header.now }
+    ensures { result ≡ tested_as (little most.now) before.now header.now }
 {
     if !same(header::previous(header), before) {
         return Err(Ending::Link);

@@ -3,7 +3,7 @@
 
 ghost use Rattle.std.specs.Prelude.{eqb, cond, length, replicate, ◌≡◌};
 ghost use Rattle.headers.specs.Following.{run_of};
-ghost use Rattle.sha256.specs.Sha256.{sha256 as digestOf};
+ghost use Rattle.sha256.specs.Sha256.{sha256 as digest_of};
 
 use headers::run::follow;
 use sha256::sha256;
@@ -22,7 +22,7 @@ pub extern "C" fn headers_covered(ceiling: u32, bytes: &[u8]) -> usize
 #[unsafe(no_mangle)]
 pub extern "C" fn hashed_twice(message: &[u8], out: &mut [u8]) -> bool
     ensures answer { result ≡ eqb (length out.old) 32 }
-    ensures written { out.new ≡ cond result (digestOf (digestOf message.now)) out.old }
+    ensures written { out.new ≡ cond result (digest_of (digest_of message.now)) out.old }
 {
     if out.len() != 32 {
         return false;

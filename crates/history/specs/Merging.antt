@@ -88,8 +88,8 @@ Gathering files (Err (stopped.Write e)) = ⊥
 
 -- what a merge answers and leaves
 abbrev pub Merging : List (List ℕ) → Meaning → List ℕ → List ℕ → Result Merged Stopped → List ℕ → List ℕ → Type 0
-Merging files m out work (Ok r) outAfter workAfter =
-    Merges files m out work (content_of r.dossier.held) r.length r.tally outAfter × (workAfter ≡ left work)
-Merging files m out work (Err (stopped.Piece k e)) outAfter workAfter = PieceRefused files k e × (outAfter ≡ out) × (workAfter ≡ work)
-Merging files m out work (Err (stopped.Tally e)) outAfter workAfter = TallyRefused files m work e workAfter × (outAfter ≡ out) × (workAfter ≡ left work)
-Merging files m out work (Err (stopped.Write e)) outAfter workAfter = WriteRefused files out e outAfter × (outAfter ≡ out) × (workAfter ≡ left work)
+Merging files m out work (Ok r) out_after work_after =
+    Merges files m out work (content_of r.dossier.held) r.length r.tally out_after × (work_after ≡ left work)
+Merging files m out work (Err (stopped.Piece k e)) out_after work_after = PieceRefused files k e × (out_after ≡ out) × (work_after ≡ work)
+Merging files m out work (Err (stopped.Tally e)) out_after work_after = TallyRefused files m work e work_after × (out_after ≡ out) × (work_after ≡ left work)
+Merging files m out work (Err (stopped.Write e)) out_after work_after = WriteRefused files out e out_after × (out_after ≡ out) × (work_after ≡ left work)

@@ -1,10 +1,10 @@
 // Calls made one after another on a new dossier, each recorded.
 ghost use Rattle.std.specs.Prelude.{◌≡◌, IfOk};
 ghost use Rattle.replay.specs.Areas.{left};
-ghost use Rattle.runs.specs.Runs.{Step, row as rowEvent, tally as tallyEvent};
+ghost use Rattle.runs.specs.Runs.{Step, row as row_event, tally as tally_event};
 ghost use Rattle.dossier.specs.Refusals.{answered};
 ghost use Rattle.dossier.specs.Phases.{open_dossier, settled_dossier};
-ghost use Rattle.history.specs.Scripts.{phase_dossier, zeros as zeroBytes, FileRecorded, SheetRecorded, One, Recorded};
+ghost use Rattle.history.specs.Scripts.{phase_dossier, zeros as zero_bytes, FileRecorded, SheetRecorded, One, Recorded};
 
 use crate::call::Call;
 use crate::entry::Entry;
@@ -17,7 +17,7 @@ use std::alloc::{AllocError, Global};
 
 // An area to lend.
 fn zeros(heap: Global, n: usize) -> Result<Vec<u8>, AllocError>
-    ensures { IfOk result (λ v. v.items ≡ zeroBytes n) }
+    ensures { IfOk result (λ v. v.items ≡ zero_bytes n) }
 {
     vec![in heap; 0u8; n]
 }
@@ -46,7 +46,7 @@ fn row_read<J: Judge>(
     k: usize,
     work: usize,
 ) -> Result<Result<Row, Refusal>, AllocError>
-    ensures { IfOk result (λ w. Step (settled_dossier dossier.now) (rowEvent (meaning judge.now) k (zeroBytes work) (answered w) (left (zeroBytes work))) (settled_dossier dossier.now)) }
+    ensures { IfOk result (λ w. Step (settled_dossier dossier.now) (row_event (J.meaning judge.now) k (zero_bytes work) (answered w) (left (zero_bytes work))) (settled_dossier dossier.now)) }
 {
     let mut area = zeros(heap, work)?;
     Ok(dossier.row(judge, k, area.as_mut_slice()))
@@ -58,7 +58,7 @@ fn tallied<J: Judge>(
     judge: &J,
     work: usize,
 ) -> Result<Result<Tally, Refusal>, AllocError>
-    ensures { IfOk result (λ w. Step (settled_dossier dossier.now) (tallyEvent (meaning judge.now) (zeroBytes work) (answered w) (left (zeroBytes work))) (settled_dossier dossier.now)) }
+    ensures { IfOk result (λ w. Step (settled_dossier dossier.now) (tally_event (J.meaning judge.now) (zero_bytes work) (answered w) (left (zero_bytes work))) (settled_dossier dossier.now)) }
 {
     let mut area = zeros(heap, work)?;
     Ok(dossier.tally(judge, area.as_mut_slice()))
@@ -71,7 +71,7 @@ fn listed<J: Judge>(
     room: usize,
     work: usize,
 ) -> Result<Result<Vec<u8>, Refusal>, AllocError>
-    ensures { IfOk result (λ w. SheetRecorded (settled_dossier dossier.now) (meaning judge.now) room work w) }
+    ensures { IfOk result (λ w. SheetRecorded (settled_dossier dossier.now) (J.meaning judge.now) room work w) }
 {
     let mut out = zeros(heap, room)?;
     let mut area = zeros(heap, work)?;
@@ -86,7 +86,7 @@ fn listed<J: Judge>(
 
 // An open dossier takes files, and may be settled.
 fn on_open<J: Judge>(heap: Global, mut dossier: Open, call: &Call<'_, J>) -> (Phase, Entry)
-    ensures { One meaning (open_dossier dossier) call.now result.1 (phase_dossier result.0) }
+    ensures { One J.meaning (open_dossier dossier) call.now result.1 (phase_dossier result.0) }
 {
     match call {
         Call::Add(file) => {
@@ -104,7 +104,7 @@ fn on_settled<J: Judge>(
     dossier: Settled,
     call: &Call<'_, J>,
 ) -> Result<(Phase, Entry), AllocError>
-    ensures { IfOk result (λ p. One meaning (settled_dossier dossier) call.now p.1 (phase_dossier p.0)) }
+    ensures { IfOk result (λ p. One J.meaning (settled_dossier dossier) call.now p.1 (phase_dossier p.0)) }
 {
     match call {
         Call::Reopen => Ok((Phase::Open(dossier.reopen()), Entry::Reopened)),
@@ -134,7 +134,7 @@ pub fn make<J: Judge>(
     phase: Phase,
     call: &Call<'_, J>,
 ) -> Result<(Phase, Entry), AllocError>
-    ensures { IfOk result (λ p. One meaning (phase_dossier phase) call.now p.1 (phase_dossier p.0)) }
+    ensures { IfOk result (λ p. One J.meaning (phase_dossier phase) call.now p.1 (phase_dossier p.0)) }
 {
     match phase {
         Phase::Open(dossier) => Ok(on_open(heap, dossier, call)),
@@ -147,7 +147,7 @@ pub fn make_all<J: Judge>(
     heap: Global,
     calls: &[Call<'_, J>],
 ) -> Result<(Phase, Vec<Entry>), AllocError>
-    ensures { IfOk result (λ p. Recorded meaning calls.now p.1.items (phase_dossier p.0)) }
+    ensures { IfOk result (λ p. Recorded J.meaning calls.now p.1.items (phase_dossier p.0)) }
 {
     let mut phase = Phase::Open(Open::new());
     let mut entries = Vec::new(heap);

@@ -28,7 +28,7 @@ pub fn merge<J: Judge>(
     out: &mut [u8],
     work: &mut [u8],
 ) -> Result<Merged, Stopped>
-    ensures { Merging (files_of pieces.now) (meaning judge.now) out.old work.old result out.new work.new }
+    ensures { Merging (files_of pieces.now) (J.meaning judge.now) out.old work.old result out.new work.new }
 {
     let open = gather_pieces(heap, pieces)?;
     let dossier = open.settle();

@@ -14,9 +14,9 @@ use runs::report::{Row, Tally};
 
 // Law: the line of a row that is there comes first of those that are left, and no tree has more than 128 rows.
 pub(crate) fn one_more<J: Judge>(judge: &J, digest: &[u8], top: &Node, k: usize, row: &Row) -> u8
-    requires { (keeps_tree digest.now (node top.now) ≡ true) × (Some row.now ≡ slice_get (rows_in (meaning judge.now) (about digest.now (node top.now))) k) }
+    requires { (keeps_tree digest.now (node top.now) ≡ true) × (Some row.now ≡ slice_get (rows_in (J.meaning judge.now) (about digest.now (node top.now))) k) }
     ensures few { k < 128 }
-    ensures long { length (lines_left (meaning judge.now) (about digest.now (node top.now)) k) ≡ length (line_of k row.now) + length (lines_left (meaning judge.now) (about digest.now (node top.now)) (k + 1)) }
+    ensures long { length (lines_left (J.meaning judge.now) (about digest.now (node top.now)) k) ≡ length (line_of k row.now) + length (lines_left (J.meaning judge.now) (about digest.now (node top.now)) (k + 1)) }
 {
     0
 }
@@ -31,24 +31,24 @@ pub(crate) fn one_behind<J: Judge>(
     out: &[u8],
     at: usize,
 ) -> u8
-    requires { Some row.now ≡ slice_get (rows_in (meaning judge.now) (about digest.now (node top.now))) k }
-    ensures { (take at out.now ++ line_of k row.now) ++ lines_left (meaning judge.now) (about digest.now (node top.now)) (k + 1) ≡ take at out.now ++ lines_left (meaning judge.now) (about digest.now (node top.now)) k }
+    requires { Some row.now ≡ slice_get (rows_in (J.meaning judge.now) (about digest.now (node top.now))) k }
+    ensures { (take at out.now ++ line_of k row.now) ++ lines_left (J.meaning judge.now) (about digest.now (node top.now)) (k + 1) ≡ take at out.now ++ lines_left (J.meaning judge.now) (about digest.now (node top.now)) k }
 {
     0
 }
 
 // Law: nothing is left where there is no row.
 pub(crate) fn none_left<J: Judge>(judge: &J, digest: &[u8], top: &Node, k: usize) -> u8
-    requires { None ≡ slice_get (rows_in (meaning judge.now) (about digest.now (node top.now))) k }
-    ensures { lines_left (meaning judge.now) (about digest.now (node top.now)) k ≡ [] }
+    requires { None ≡ slice_get (rows_in (J.meaning judge.now) (about digest.now (node top.now))) k }
+    ensures { lines_left (J.meaning judge.now) (about digest.now (node top.now)) k ≡ [] }
 {
     0
 }
 
 // Law: a sheet is as long as its lines and the last one.
 pub(crate) fn sheet_measured<J: Judge>(judge: &J, digest: &[u8], top: &Node, tally: &Tally) -> u8
-    requires { tally.now ≡ tally_in (meaning judge.now) (about digest.now (node top.now)) }
-    ensures { length (sheet_in (meaning judge.now) (about digest.now (node top.now))) ≡ length (lines_left (meaning judge.now) (about digest.now (node top.now)) 0) + length (last_line tally.now) }
+    requires { tally.now ≡ tally_in (J.meaning judge.now) (about digest.now (node top.now)) }
+    ensures { length (sheet_in (J.meaning judge.now) (about digest.now (node top.now))) ≡ length (lines_left (J.meaning judge.now) (about digest.now (node top.now)) 0) + length (last_line tally.now) }
 {
     0
 }
@@ -62,9 +62,9 @@ pub(crate) fn sheet_joined<J: Judge>(
     out: &[u8],
     at: usize,
 ) -> u8
-    requires tally_value { tally.now ≡ tally_in (meaning judge.now) (about digest.now (node top.now)) }
-    requires out_value { take at out.now ≡ lines_left (meaning judge.now) (about digest.now (node top.now)) 0 }
-    ensures { take at out.now ++ last_line tally.now ≡ sheet_in (meaning judge.now) (about digest.now (node top.now)) }
+    requires tally_value { tally.now ≡ tally_in (J.meaning judge.now) (about digest.now (node top.now)) }
+    requires out_value { take at out.now ≡ lines_left (J.meaning judge.now) (about digest.now (node top.now)) 0 }
+    ensures { take at out.now ++ last_line tally.now ≡ sheet_in (J.meaning judge.now) (about digest.now (node top.now)) }
 {
     0
 }

@@ -20,7 +20,7 @@ use sheets::last::{last_length, put_last};
 // How long the sheet is.
 pub fn sheet_length<J: Judge>(judge: &J, digest: &[u8], top: &Node, work: &mut [u8]) -> usize
     requires { (4096 ≤ length work.old) × (keeps_tree digest.now (node top.now) ≡ true) }
-    ensures value { result ≡ length (sheet_in (meaning judge.now) (about digest.now (node top.now))) }
+    ensures value { result ≡ length (sheet_in (J.meaning judge.now) (about digest.now (node top.now))) }
     ensures kept { drop 4096 work.new ≡ drop 4096 work.old }
 {
     let tally = tally_of(judge, digest, top, work);
@@ -31,8 +31,8 @@ pub fn sheet_length<J: Judge>(judge: &J, digest: &[u8], top: &Node, work: &mut [
 // Writes the sheet into an area that is exactly as long.
 pub fn put_sheet<J: Judge>(judge: &J, digest: &[u8], top: &Node, out: &mut [u8], work: &mut [u8])
     requires in_bounds { (4096 ≤ length work.old) × (keeps_tree digest.now (node top.now) ≡ true) }
-    requires out_len { length out.old ≡ length (sheet_in (meaning judge.now) (about digest.now (node top.now))) }
-    ensures out { out.new ≡ sheet_in (meaning judge.now) (about digest.now (node top.now)) }
+    requires out_len { length out.old ≡ length (sheet_in (J.meaning judge.now) (about digest.now (node top.now))) }
+    ensures out { out.new ≡ sheet_in (J.meaning judge.now) (about digest.now (node top.now)) }
     ensures kept { drop 4096 work.new ≡ drop 4096 work.old }
 {
     let tally = tally_of(judge, digest, top, work);

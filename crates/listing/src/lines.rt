@@ -14,7 +14,7 @@ use sheets::line::{line_length, put_line};
 // How long the lines are.
 pub(crate) fn lines_length<J: Judge>(judge: &J, digest: &[u8], top: &Node, work: &mut [u8]) -> usize
     requires { (4096 ≤ length work.old) × (keeps_tree digest.now (node top.now) ≡ true) }
-    ensures value { result ≡ length (lines_left (meaning judge.now) (about digest.now (node top.now)) 0) }
+    ensures value { result ≡ length (lines_left (J.meaning judge.now) (about digest.now (node top.now)) 0) }
     ensures bound { result ≤ 16384 }
     ensures kept { drop 4096 work.new ≡ drop 4096 work.old }
 {
@@ -38,9 +38,9 @@ pub(crate) fn put_lines<J: Judge>(
     work: &mut [u8],
 ) -> usize
     requires in_bounds { (4096 ≤ length work.old) × (keeps_tree digest.now (node top.now) ≡ true) }
-    requires room { length (lines_left (meaning judge.now) (about digest.now (node top.now)) 0) ≤ length out.old }
-    ensures next { result ≡ length (lines_left (meaning judge.now) (about digest.now (node top.now)) 0) }
-    ensures front { take result out.new ≡ lines_left (meaning judge.now) (about digest.now (node top.now)) 0 }
+    requires room { length (lines_left (J.meaning judge.now) (about digest.now (node top.now)) 0) ≤ length out.old }
+    ensures next { result ≡ length (lines_left (J.meaning judge.now) (about digest.now (node top.now)) 0) }
+    ensures front { take result out.new ≡ lines_left (J.meaning judge.now) (about digest.now (node top.now)) 0 }
     ensures kept { drop 4096 work.new ≡ drop 4096 work.old }
 {
     let mut at = 0;

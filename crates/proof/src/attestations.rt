@@ -1,6 +1,6 @@
 // Reading attestations.
 ghost use Rattle.std.specs.Prelude.{◌≡◌, ℕ, ◌+◌, ◌-◌, ◌≤◌, length, IfOk};
-ghost use Rattle.format.specs.Attestations.{height_at, address_at, content_at, address_byte, address_bytes, same as sameBytes, bitcoin_tag, pending_tag};
+ghost use Rattle.format.specs.Attestations.{height_at, address_at, content_at, address_byte, address_bytes, same as same_bytes, bitcoin_tag, pending_tag};
 ghost use Rattle.format.specs.Items.{attestation_at};
 ghost use Rattle.proof.specs.Answers.{outcome};
 ghost use Rattle.proof.specs.Pieces.{piece, attested, Bounded};
@@ -62,13 +62,13 @@ fn content<'a>(
 }
 
 pub fn is_bitcoin(tag: &[u8]) -> bool
-    ensures { result ≡ sameBytes tag.now bitcoin_tag }
+    ensures { result ≡ same_bytes tag.now bitcoin_tag }
 {
     same(tag, &BITCOIN)
 }
 
 pub fn is_pending(tag: &[u8]) -> bool
-    ensures { result ≡ sameBytes tag.now pending_tag }
+    ensures { result ≡ same_bytes tag.now pending_tag }
 {
     same(tag, &PENDING)
 }
@@ -140,13 +140,13 @@ fn address_byte(b: u8) -> bool
 
 // Whether two byte strings are equal.
 pub fn same(a: &[u8], b: &[u8]) -> bool
-    ensures { result ≡ sameBytes a.now b.now }
+    ensures { result ≡ same_bytes a.now b.now }
 {
     compare(a, b)
 }
 
 fn compare(a: &[u8], b: &[u8]) -> bool
-    ensures { result ≡ sameBytes a.now b.now }
+    ensures { result ≡ same_bytes a.now b.now }
 {
     if a.len() != b.len() {
         return false;

@@ -2,7 +2,7 @@
 ghost use Rattle.std.specs.Prelude.{◌≡◌, ℕ, ◌+◌, ◌-◌, ◌^◌, ◌<◌, ◌≤◌, length};
 ghost use Rattle.format.specs.Outcome.{then, got};
 ghost use Rattle.format.specs.Files.{file_at};
-ghost use Rattle.format.specs.Counts.{plus, counts_of, adds as itemAdds};
+ghost use Rattle.format.specs.Counts.{plus, counts_of, adds as item_adds};
 ghost use Rattle.proof.specs.Answers.{outcome};
 ghost use Rattle.proof.specs.Pieces.{piece};
 ghost use Rattle.proof.specs.Counted.{counted};
@@ -23,7 +23,7 @@ impl Counts {
     fn note(&mut self, item: &Item)
         requires { self.old.pending + self.old.bitcoin + self.old.unknown < 2 ^ 64 - 1 }
         ensures more { self.new.pending + self.new.bitcoin + self.new.unknown ≤ self.old.pending + self.old.bitcoin + self.old.unknown + 1 }
-        ensures adds { counted self.new ≡ plus (counted self.old) (itemAdds (piece item.now)) }
+        ensures adds { counted self.new ≡ plus (counted self.old) (item_adds (piece item.now)) }
     {
         if let Item::Attestation { content, .. } = *item {
             match content {

@@ -1,6 +1,6 @@
 // Reading what stands before the top node: mark, version, file hash and digest.
 ghost use Rattle.std.specs.Prelude.{◌≡◌, ℕ, ◌+◌, ◌≤◌, length};
-ghost use Rattle.format.specs.Files.{mark as markBytes, mark_at, digest_at, version_at, head_at};
+ghost use Rattle.format.specs.Files.{mark as mark_bytes, mark_at, digest_at, version_at, head_at};
 ghost use Rattle.proof.specs.Answers.{outcome};
 ghost use Rattle.proof.specs.Heads.{headed};
 
@@ -41,7 +41,7 @@ impl<'a> Reader<'a> {
 
     fn mark(&mut self) -> Result<(), Fault>
         ensures same { self.new.file.now ≡ self.old.file.now }
-        ensures reads { outcome (λ _. tt) result self.new.at ≡ mark_at markBytes self.old.file.now self.old.at }
+        ensures reads { outcome (λ _. tt) result self.new.at ≡ mark_at mark_bytes self.old.file.now self.old.at }
     {
         self.due(&MARK)
     }

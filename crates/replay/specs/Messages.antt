@@ -1,7 +1,7 @@
 -- What operations make of a message.
 use Rattle.std.specs.Prelude.{ℕ, ◌+◌, ◌/◌, ◌%◌, Bool, cond, ◌&&◌, List, [], ◌∷◌, ◌++◌, reverse as reversed, length, nat_le, nat_lt}
 use Rattle.format.specs.Operations.{Op, sha256, append, prepend, reverse, hexlify, message_limit}
-use Rattle.sha256.specs.Sha256.{sha256 as digestOf}
+use Rattle.sha256.specs.Sha256.{sha256 as digest_of}
 
 -- the lowercase hexadecimal digit of a number below 16: 0 to 9, then a to f
 abbrev pub digit : ℕ → ℕ
@@ -14,7 +14,7 @@ digits (b ∷ bs) = digit (b / 16) ∷ digit (b % 16) ∷ digits bs
 
 -- one operation
 abbrev pub apply : Op → List ℕ → List ℕ
-apply sha256 message = digestOf message
+apply sha256 message = digest_of message
 apply (append argument) message = message ++ argument
 apply (prepend argument) message = argument ++ message
 apply reverse message = reversed message

@@ -1,6 +1,6 @@
 // The lines of a report.
 ghost use Rattle.std.specs.Prelude.{◌≡◌, IfOk, string_bytes};
-ghost use Rattle.report.specs.Lines.{claim_word, claims_text, granted_text, piece_line, reason as reasonText, in_brackets, refused_line, counts_text, verdicts_line, date_line, wrote_line};
+ghost use Rattle.report.specs.Lines.{claim_word, claims_text, granted_text, piece_line, reason as reason_text, in_brackets, refused_line, counts_text, verdicts_line, date_line, wrote_line};
 
 use account::refusals::meaning;
 use coverage::lines::time_text;
@@ -48,7 +48,7 @@ pub fn refused_piece_line(heap: Global, path: &str, refusal: &Refusal) -> Result
 
 // A refusal in words; want of memory needs none.
 fn reason(refusal: &Refusal) -> &'static str
-    ensures { result.now ≡ reasonText refusal.now }
+    ensures { result.now ≡ reason_text refusal.now }
 {
     match *refusal {
         Refusal::File(fault) => meaning(&fault),

@@ -1,6 +1,6 @@
 // One option: what a word and the word behind it ask for.
 ghost use Rattle.std.specs.Prelude.{◌≡◌, ◌-◌, ◌^◌, ◌<◌};
-ghost use Rattle.report.specs.Options.{dashed as dashedWord, chain_named, named_by, is_paired, is_piece, with_file, based, linked, capped, with_chain, read_as, stepped, no_request};
+ghost use Rattle.report.specs.Options.{dashed as dashed_word, chain_named, named_by, is_paired, is_piece, with_file, based, linked, capped, with_chain, read_as, stepped, no_request};
 
 use coverage::options::{Options, main_chain};
 use coverage::reading::{bits, hash, number};
@@ -69,7 +69,7 @@ pub fn no_request() -> Request
 }
 
 fn dashed(word: &[u8]) -> bool
-    ensures { result ≡ dashedWord word.now }
+    ensures { result ≡ dashed_word word.now }
 {
     word.len() >= 2 && word[0] == b'-' && word[1] == b'-'
 }

@@ -12,7 +12,7 @@ use written::payload::{ROOM, payload};
 // The judge is asked for the claim's tag, its payload in shortest form, and the message in the area.
 pub(crate) fn row_at<J: Judge>(judge: &J, place: Place, work: &[u8]) -> Row
     requires { (att_fits (att place.attestation.now) ≡ true) × ((place.size ≤ 4096) × (4096 ≤ length work.now)) }
-    ensures { result ≡ row_at (meaning judge.now) (seen place.entry work.now) }
+    ensures { result ≡ row_at (J.meaning judge.now) (seen place.entry work.now) }
 {
     let mut room = [0u8; ROOM];
     let tag = place.attestation.tag();

@@ -32,7 +32,7 @@ pub fn row_of<J: Judge>(
     work: &mut [u8],
 ) -> Option<Row>
     requires { (4096 ≤ length work.old) × (keeps_tree digest.now (node top.now) ≡ true) }
-    ensures value { result ≡ slice_get (rows_in (meaning judge.now) (about digest.now (node top.now))) k }
+    ensures value { result ≡ slice_get (rows_in (J.meaning judge.now) (about digest.now (node top.now))) k }
     ensures kept { drop 4096 work.new ≡ drop 4096 work.old }
 {
     match place_of(digest, top, k, work) {
@@ -44,7 +44,7 @@ pub fn row_of<J: Judge>(
 // The tally of all rows: each is read by its number, from 0 until there is none.
 pub fn tally_of<J: Judge>(judge: &J, digest: &[u8], top: &Node, work: &mut [u8]) -> Tally
     requires { (4096 ≤ length work.old) × (keeps_tree digest.now (node top.now) ≡ true) }
-    ensures value { result ≡ tally_in (meaning judge.now) (about digest.now (node top.now)) }
+    ensures value { result ≡ tally_in (J.meaning judge.now) (about digest.now (node top.now)) }
     ensures kept { drop 4096 work.new ≡ drop 4096 work.old }
 {
     let none = Tally {

@@ -31,7 +31,7 @@ pub(crate) fn tally_from<J: Judge>(
     work: &mut [u8],
 ) -> Tally
     requires { (4096 ≤ length work.old) × ((keeps_tree digest.now (node top.now) ≡ true) × (Within tally row)) }
-    ensures value { result ≡ tallied (verdict_on (meaning judge.now) digest.now) row tally (drop row (claims_in (about digest.now (node top.now)))) }
+    ensures value { result ≡ tallied (verdict_on (J.meaning judge.now) digest.now) row tally (drop row (claims_in (about digest.now (node top.now)))) }
     ensures kept { drop 4096 work.new ≡ drop 4096 work.old }
 {
     let mut so_far = tally;

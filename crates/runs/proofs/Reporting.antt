@@ -147,5 +147,5 @@ pub clears : Clears
 clears = record {
   row_work = λ s t m k work after r h. (read_by s t m k work after r h).work;
   tally_work = λ s t m work after r h. (tallied_by s t m work after r h).work;
-  sheet_work = λ s t m out work outAfter workAfter r h. (listed_by s t m out work outAfter workAfter r h).work;
+  sheet_work = λ s t m out work out_after work_after r h. (listed_by s t m out work out_after work_after r h).work;
 }

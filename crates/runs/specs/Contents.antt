@@ -1,7 +1,7 @@
 -- What a dossier holds: nothing, or a digest and the tree of its claims.
 use Rattle.std.specs.Prelude.{ℕ, List, [], Some, None, Option}
 use Rattle.format.specs.Nodes.{Claim}
-use Rattle.claim_trees.specs.Tree.{Held, claims, blank as noClaims}
+use Rattle.claim_trees.specs.Tree.{Held, claims, blank as no_claims}
 
 -- the file hash is always SHA-256
 pub data Content : Type 0 where
@@ -9,7 +9,7 @@ pub data Content : Type 0 where
   about : (digest : List ℕ) (tree : Held) → Content
 
 abbrev pub tree_in : Content → Held
-tree_in blank = noClaims
+tree_in blank = no_claims
 tree_in (about digest tree) = tree
 
 -- the claims in written order

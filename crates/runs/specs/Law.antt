@@ -185,8 +185,8 @@ pub record TrueSheet (m : Meaning) (s : Content) (out : List ℕ) (n : ℕ) (aft
   pub behind : drop n after ≡ drop n out
 
 abbrev pub ListsRows : Type 0
-ListsRows = (es : List Event) (s : Dossier) (m : Meaning) (out work outAfter workAfter : List ℕ) (n : ℕ)
-    → Run (sheet m out work (granted n) outAfter workAfter ∷ es) s → TrueSheet m (content s) out n outAfter
+ListsRows = (es : List Event) (s : Dossier) (m : Meaning) (out work out_after work_after : List ℕ) (n : ℕ)
+    → Run (sheet m out work (granted n) out_after work_after ∷ es) s → TrueSheet m (content s) out n out_after
 
 -- ---- what a dossier does not take, and what a refusal keeps
 
@@ -199,8 +199,8 @@ pub record Protocol : Type 0 where
   pub open_write : (s : Content) (t : Dossier) (out after : List ℕ) (r : Answer ℕ) → Step (opened s) (write out r after) t → ⊥
   pub open_tally : (s : Content) (t : Dossier) (m : Meaning) (work after : List ℕ) (r : Answer Tally)
       → Step (opened s) (tally m work r after) t → ⊥
-  pub open_sheet : (s : Content) (t : Dossier) (m : Meaning) (out work outAfter workAfter : List ℕ) (r : Answer ℕ)
-      → Step (opened s) (sheet m out work r outAfter workAfter) t → ⊥
+  pub open_sheet : (s : Content) (t : Dossier) (m : Meaning) (out work out_after work_after : List ℕ) (r : Answer ℕ)
+      → Step (opened s) (sheet m out work r out_after work_after) t → ⊥
 
 -- not granted
 abbrev pub Refusal : {A : Type 0} → Answer A → Type 0
@@ -212,17 +212,17 @@ abbrev pub Refused : Event → Type 0
 Refused (add file answer) = Refusal answer
 Refused settle = ⊥
 Refused reopen = ⊥
-Refused (write out answer outAfter) = Refusal answer
-Refused (row judge k work answer workAfter) = Refusal answer
-Refused (tally judge work answer workAfter) = Refusal answer
-Refused (sheet judge out work answer outAfter workAfter) = Refusal answer
+Refused (write out answer out_after) = Refusal answer
+Refused (row judge k work answer work_after) = Refusal answer
+Refused (tally judge work answer work_after) = Refusal answer
+Refused (sheet judge out work answer out_after work_after) = Refusal answer
 
 -- a refusal keeps the dossier and the out area
 pub record Refusals : Type 0 where
   pub dossier : (s : Dossier) (e : Event) (t : Dossier) → Step s e t → Refused e → t ≡ s
   pub write_out : (s t : Dossier) (out after : List ℕ) (r : Answer ℕ) → Step s (write out r after) t → Refusal r → after ≡ out
-  pub sheet_out : (s t : Dossier) (m : Meaning) (out work outAfter workAfter : List ℕ) (r : Answer ℕ)
-      → Step s (sheet m out work r outAfter workAfter) t → Refusal r → outAfter ≡ out
+  pub sheet_out : (s t : Dossier) (m : Meaning) (out work out_after work_after : List ℕ) (r : Answer ℕ)
+      → Step s (sheet m out work r out_after work_after) t → Refusal r → out_after ≡ out
 
 -- ---- work areas
 
@@ -230,8 +230,8 @@ pub record Refusals : Type 0 where
 pub record Clears : Type 0 where
   pub row_work : (s t : Dossier) (m : Meaning) (k : ℕ) (work after : List ℕ) (r : Answer Row) → Step s (row m k work r after) t → after ≡ left work
   pub tally_work : (s t : Dossier) (m : Meaning) (work after : List ℕ) (r : Answer Tally) → Step s (tally m work r after) t → after ≡ left work
-  pub sheet_work : (s t : Dossier) (m : Meaning) (out work outAfter workAfter : List ℕ) (r : Answer ℕ)
-      → Step s (sheet m out work r outAfter workAfter) t → workAfter ≡ left work
+  pub sheet_work : (s t : Dossier) (m : Meaning) (out work out_after work_after : List ℕ) (r : Answer ℕ)
+      → Step s (sheet m out work r out_after work_after) t → work_after ≡ left work
 
 -- ---- one outcome
 

@@ -15,10 +15,10 @@ pub data Event : Type 0 where
   add : (file : List ℕ) (answer : Answer (Unit {0})) → Event
   settle : Event
   reopen : Event
-  write : (out : List ℕ) (answer : Answer ℕ) (outAfter : List ℕ) → Event
-  row : (judge : Meaning) (k : ℕ) (work : List ℕ) (answer : Answer Row) (workAfter : List ℕ) → Event
-  tally : (judge : Meaning) (work : List ℕ) (answer : Answer Tally) (workAfter : List ℕ) → Event
-  sheet : (judge : Meaning) (out work : List ℕ) (answer : Answer ℕ) (outAfter workAfter : List ℕ) → Event
+  write : (out : List ℕ) (answer : Answer ℕ) (out_after : List ℕ) → Event
+  row : (judge : Meaning) (k : ℕ) (work : List ℕ) (answer : Answer Row) (work_after : List ℕ) → Event
+  tally : (judge : Meaning) (work : List ℕ) (answer : Answer Tally) (work_after : List ℕ) → Event
+  sheet : (judge : Meaning) (out work : List ℕ) (answer : Answer ℕ) (out_after work_after : List ℕ) → Event
 
 -- an open dossier, or a settled one, whose content P holds of
 abbrev pub Open : Dossier → (Content → Type 0) → Type 0
@@ -34,21 +34,21 @@ abbrev pub OpenTakes : Content → Event → Dossier → Type 0
 OpenTakes s (add file answer) after = Open after (Added s file answer)
 OpenTakes s settle after = Settled after (λ t. t ≡ s)
 OpenTakes s reopen after = ⊥
-OpenTakes s (write out answer outAfter) after = ⊥
-OpenTakes s (row judge k work answer workAfter) after = ⊥
-OpenTakes s (tally judge work answer workAfter) after = ⊥
-OpenTakes s (sheet judge out work answer outAfter workAfter) after = ⊥
+OpenTakes s (write out answer out_after) after = ⊥
+OpenTakes s (row judge k work answer work_after) after = ⊥
+OpenTakes s (tally judge work answer work_after) after = ⊥
+OpenTakes s (sheet judge out work answer out_after work_after) after = ⊥
 
 -- a settled one takes the others, and only reopen makes it open
 abbrev pub SettledTakes : Content → Event → Dossier → Type 0
 SettledTakes s (add file answer) after = ⊥
 SettledTakes s settle after = ⊥
 SettledTakes s reopen after = Open after (λ t. t ≡ s)
-SettledTakes s (write out answer outAfter) after = Settled after (λ t. Wrote s out answer outAfter × (t ≡ s))
-SettledTakes s (row judge k work answer workAfter) after = Settled after (λ t. Read s judge k work answer workAfter × (t ≡ s))
-SettledTakes s (tally judge work answer workAfter) after = Settled after (λ t. Tallied s judge work answer workAfter × (t ≡ s))
-SettledTakes s (sheet judge out work answer outAfter workAfter) after =
-    Settled after (λ t. Listed s judge out work answer outAfter workAfter × (t ≡ s))
+SettledTakes s (write out answer out_after) after = Settled after (λ t. Wrote s out answer out_after × (t ≡ s))
+SettledTakes s (row judge k work answer work_after) after = Settled after (λ t. Read s judge k work answer work_after × (t ≡ s))
+SettledTakes s (tally judge work answer work_after) after = Settled after (λ t. Tallied s judge work answer work_after × (t ≡ s))
+SettledTakes s (sheet judge out work answer out_after work_after) after =
+    Settled after (λ t. Listed s judge out work answer out_after work_after × (t ≡ s))
 
 -- what a call makes of a dossier that takes it
 abbrev pub Step : Dossier → Event → Dossier → Type 0

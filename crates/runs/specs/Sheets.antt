@@ -56,7 +56,7 @@ listing m s out work = worked work (fitted (sheet_in m s) out)
 abbrev pub listing_leaves : Meaning → Content → List ℕ → List ℕ → List ℕ
 listing_leaves m s out work = cond (nat_lt (length work) message_limit) out (placed (sheet_in m s) out)
 
-pub record Listed (s : Content) (m : Meaning) (lent spare : List ℕ) (r : Answer ℕ) (outAfter workAfter : List ℕ) : Type 0 where
+pub record Listed (s : Content) (m : Meaning) (lent spare : List ℕ) (r : Answer ℕ) (out_after work_after : List ℕ) : Type 0 where
   pub answer : r ≡ listing m s lent spare
-  pub out : outAfter ≡ listing_leaves m s lent spare
-  pub work : workAfter ≡ left spare
+  pub out : out_after ≡ listing_leaves m s lent spare
+  pub work : work_after ≡ left spare
