@@ -30,7 +30,7 @@ pub fn sheet_length<J: Judge>(judge: &J, digest: &[u8], top: &Node, work: &mut [
 
 // Writes the sheet into an area that is exactly as long.
 pub fn put_sheet<J: Judge>(judge: &J, digest: &[u8], top: &Node, out: &mut [u8], work: &mut [u8])
-    requires in_bounds { (4096 ≤ length work.old) × (keeps_tree digest.now (node top.now) ≡ true) }
+    requires lent { (4096 ≤ length work.old) × (keeps_tree digest.now (node top.now) ≡ true) }
     requires out_len { length out.old ≡ length (sheet_in (J.meaning judge.now) (about digest.now (node top.now))) }
     ensures out { out.new ≡ sheet_in (J.meaning judge.now) (about digest.now (node top.now)) }
     ensures kept { drop 4096 work.new ≡ drop 4096 work.old }

@@ -37,7 +37,7 @@ pub(crate) fn put_lines<J: Judge>(
     out: &mut [u8],
     work: &mut [u8],
 ) -> usize
-    requires in_bounds { (4096 ≤ length work.old) × (keeps_tree digest.now (node top.now) ≡ true) }
+    requires lent { (4096 ≤ length work.old) × (keeps_tree digest.now (node top.now) ≡ true) }
     requires room { length (lines_left (J.meaning judge.now) (about digest.now (node top.now)) 0) ≤ length out.old }
     ensures next { result ≡ length (lines_left (J.meaning judge.now) (about digest.now (node top.now)) 0) }
     ensures front { take result out.new ≡ lines_left (J.meaning judge.now) (about digest.now (node top.now)) 0 }

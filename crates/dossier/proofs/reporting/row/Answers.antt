@@ -14,6 +14,6 @@ returns g c =
     let m = g.J.Judge.meaning c.args.judge.now in
     let row = as_row (slice_get (rows_in m (content_of c.args.held.now)) c.args.k) in
     record {
-      answer = cond_above _ _ _ row (answered c.row-in.result) c.if-work-lt-ROOM.false c.row-in.ensures.value;
-      work = c.drop-area.ensures ∙ guards_leave xs c.row-in.new.work c.if-work-lt-ROOM.false c.row-in.ensures.kept;
+      answer = cond_above _ _ _ row (answered c.row_in.result) c.if-work-lt-ROOM.false c.row_in.ensures.value;
+      work = c.drop-area.ensures ∙ guards_leave xs c.row_in.new.work c.if-work-lt-ROOM.false c.row_in.ensures.kept;
     }

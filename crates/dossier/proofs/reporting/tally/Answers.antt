@@ -11,6 +11,6 @@ returns g c =
     let xs = c.args.work.now in
     let m = g.J.Judge.meaning c.args.judge.now in
     record {
-      answer = cond_above _ _ _ (granted (tally_in m (content_of c.args.held.now))) (granted c.tally-in.result) c.if-work-lt-ROOM.false (ap granted c.tally-in.ensures.value);
-      work = c.drop-area.ensures ∙ guards_leave xs c.tally-in.new.work c.if-work-lt-ROOM.false c.tally-in.ensures.kept;
+      answer = cond_above _ _ _ (granted (tally_in m (content_of c.args.held.now))) (granted c.tally_in.result) c.if-work-lt-ROOM.false (ap granted c.tally_in.ensures.value);
+      work = c.drop-area.ensures ∙ guards_leave xs c.tally_in.new.work c.if-work-lt-ROOM.false c.tally_in.ensures.kept;
     }

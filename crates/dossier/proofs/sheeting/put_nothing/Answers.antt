@@ -6,6 +6,6 @@ use Rattle.dossier.proofs.sheeting.put_nothing.Goals as goal
 
 pub returns : goal.returns
 returns c =
-    whole_put c.args.out.now c.put-last.new.out (last_line c.nothing.result) _ c.put-last.ensures.front c.put-last.ensures.next c.put-last.auto.out
+    whole_put c.args.out.now c.put_last.new.out (last_line c.nothing.result) _ c.put_last.ensures.front c.put_last.ensures.next c.put_last.auto.out
     (c.requires ∙ ap (λ (t : Tally). length (last_line t)) (sym c.nothing.ensures))
     ∙ ap last_line c.nothing.ensures

@@ -12,7 +12,7 @@ returns g c =
     let xs = c.args.work.now in
     let bytes = sheet_in (g.J.Judge.meaning c.args.judge.now) (content_of c.args.held.now) in
     record {
-      answer = cond_above _ _ _ (fitted bytes c.args.out.now) (answered c.sheet-in.result) c.if-work-lt-ROOM.false c.sheet-in.ensures.answer;
-      out = cond_above _ _ _ (placed bytes c.args.out.now) c.sheet-in.new.out c.if-work-lt-ROOM.false c.sheet-in.ensures.out;
-      work = c.drop-area.ensures ∙ guards_leave xs c.sheet-in.new.work c.if-work-lt-ROOM.false c.sheet-in.ensures.kept;
+      answer = cond_above _ _ _ (fitted bytes c.args.out.now) (answered c.sheet_in.result) c.if-work-lt-ROOM.false c.sheet_in.ensures.answer;
+      out = cond_above _ _ _ (placed bytes c.args.out.now) c.sheet_in.new.out c.if-work-lt-ROOM.false c.sheet_in.ensures.out;
+      work = c.drop-area.ensures ∙ guards_leave xs c.sheet_in.new.work c.if-work-lt-ROOM.false c.sheet_in.ensures.kept;
     }

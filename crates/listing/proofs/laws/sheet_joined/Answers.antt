@@ -7,4 +7,4 @@ use Rattle.listing.proofs.laws.sheet_joined.Goals as goal
 pub returns : goal.returns
 returns g c =
     let s = about c.args.digest.now (node c.args.top.now) in
-    sheet_behind (g.J.Judge.meaning c.args.judge.now) s c.args.tally.now (take c.args.at c.args.out.now) c.requires.0 c.requires.1
+    sheet_behind (g.J.Judge.meaning c.args.judge.now) s c.args.tally.now (take c.args.at c.args.out.now) c.requires.tally_value c.requires.out_value
