@@ -4,7 +4,8 @@
 usage: tools/respell.py [--dry]      at the top of the repository
 
 It renames what the .antt files of crates/ declare (definitions, lemmas, constructors, fields), there, in the clauses of the
-.rt files and in the pages of docs/. Functions of src/, strings and files keep their names. Where a name would fall together
+.rt files and in the pages of docs/, and then what a file alone calls so (imports by another name, parameters in proofs).
+Functions of src/, strings and files keep their names. Where a name would fall together
 with another, a lemma gets `_lem` behind it and a definition `the_` before it; if that doesn't part them, the run stops.
 """
 import os
@@ -25,6 +26,7 @@ def files(ends, under="crates"):
                 yield os.path.join(folder, name)
 
 
+CAMEL = re.compile(r"[a-z][a-z0-9]*[A-Z]\w*$")
 # where the rule below would make no word
 CHOSEN = {"goesOn": "is_going_on"}
 
@@ -93,6 +95,9 @@ def main():
         with open(path, encoding="utf-8") as f:
             text = f.read()
         new = TOKEN.sub(lambda m: turn.get(m[0], m[0]), text)
+        if not path.endswith(".md"):
+            own = {t: spelled(t) for t in TOKEN.findall(new) if CAMEL.match(t)}
+            new = TOKEN.sub(lambda m: own.get(m[0], m[0]), new)
         if new != text:
             with open(path, "w", encoding="utf-8") as f:
                 f.write(new)

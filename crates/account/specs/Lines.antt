@@ -1,5 +1,5 @@
 -- The lines of an account.
-use Rattle.std.specs.Prelude.{ℕ, ◌*◌, cond, List, [], ◌∷◌, ◌++◌, reverse, length, replicate, codes, decimal, ◌==◌}
+use Rattle.std.specs.Prelude.{ℕ, ◌*◌, cond, List, ◌++◌, reverse, length, replicate, codes, decimal, ◌==◌}
 use Rattle.std.proofs.Math.Utf8.{encodes}
 use Rattle.format.specs.declared.Kind.{Kind}
 use Rattle.format.specs.declared.Kind.TheVariants.{Sha256, Append, Prepend, Reverse, Hexlify}

@@ -1,5 +1,5 @@
 -- What is said of a refused file.
-use Rattle.std.specs.Prelude.{ℕ, ◌+◌, ◌-◌, min, List, [], ◌∷◌, ◌++◌, length, take, drop, codes, decimal}
+use Rattle.std.specs.Prelude.{ℕ, ◌+◌, ◌-◌, min, List, ◌++◌, length, take, drop, codes, decimal}
 use Rattle.proof.specs.declared.fault.Fault.{Fault}
 use Rattle.proof.specs.declared.fault.Fault.TheVariants.{Long, Ends, Mark, Version, FileHash, Operation, Number, Length, Result, Content, Path, Follows}
 use Rattle.account.specs.Words.{hex_of}

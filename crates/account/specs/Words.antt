@@ -1,5 +1,5 @@
 -- Bytes as text.
-use Rattle.std.specs.Prelude.{ℕ, ◌/◌, ◌%◌, List, [], ◌∷◌, ◌++◌}
+use Rattle.std.specs.Prelude.{ℕ, ◌/◌, ◌%◌, List, [], ◌∷◌}
 use Rattle.std.specs.Char.{digit_char}
 
 -- two lowercase hexadecimal digits for each byte

@@ -6,9 +6,9 @@ use Rattle.format.specs.Attestations.{Att}
 use Rattle.format.specs.Nodes.{Claim, claim, under}
 use Rattle.claim_trees.specs.Tree.{Tree, end, more, Held, held, here, through, claims, In, Alike, Apart, Through, Claims}
 use Rattle.claim_trees.specs.Order.{argument_of, op_order, att_order, ascends, sorted}
-use Rattle.claim_trees.specs.Union.{choose, place, unite, graft, unify, union}
+use Rattle.claim_trees.specs.Union.{choose, unite, unify, union}
 use Rattle.claim_trees.specs.Bytes.{payload_of}
-use Rattle.claim_trees.specs.Size.{Size, size, Lists, Begins, total, last_argument, payload_bytes, Sized, payloads, ops_in, atts_in, bytes_in, size_of, unite_total, marks_both, payloads_both, unify_total, ops_both, atts_both, bytes_both, size_of_both, SizeLaw}
+use Rattle.claim_trees.specs.Size.{Size, size, Begins, total, last_argument, payload_bytes, Sized, payloads, ops_in, atts_in, bytes_in, size_of, unite_total, marks_both, payloads_both, unify_total, ops_both, atts_both, bytes_both, size_of_both, SizeLaw}
 use Rattle.claim_trees.specs.Gathered.{gathered, Holds}
 use Rattle.claim_trees.proofs.Orders.{ops, less_itself}
 use Rattle.claim_trees.proofs.Listing.{in_left, in_right, in_either, listed}

@@ -2,7 +2,7 @@
 use Rattle.std.proofs.Common.{◌≡◌, true, ◌&&◌, List, refl, inl, inr, ⊎_elim}
 use Rattle.std.proofs.lemmas.Bool.{and_parts, and_from}
 use Rattle.format.specs.Nodes.{Claim}
-use Rattle.claim_trees.specs.Tree.{Held, blank, through, claims, Alike}
+use Rattle.claim_trees.specs.Tree.{Held, blank, through, Alike}
 use Rattle.claim_trees.specs.Order.{ascends, sorted}
 use Rattle.claim_trees.specs.Union.{union}
 use Rattle.claim_trees.specs.Lawful.{claim_fits, every}

@@ -10,7 +10,7 @@ use Rattle.format.specs.Files.{mark, file_limit, said, head, file_at}
 use Rattle.format.specs.Grammar.{Number, final, proof}
 use Rattle.format.proofs.Sound.{mark_long}
 use Rattle.format.proofs.Complete.{full_file}
-use Rattle.claim_trees.specs.Tree.{Tree, end, more, Held, claims, Alike, filled}
+use Rattle.claim_trees.specs.Tree.{Tree, end, more, Held, Alike, filled}
 use Rattle.claim_trees.specs.Order.{tag_of, argument_of}
 use Rattle.claim_trees.specs.Bytes.{groups, shortest, block, op_bytes, payload_of, att_bytes, ff, none, nil, marks_bytes, branches_bytes, node_bytes, file_bytes}
 use Rattle.claim_trees.specs.Lawful.{result_of, argument_fits, att_fits, marks_fit, branches_fit}

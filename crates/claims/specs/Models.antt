@@ -1,5 +1,5 @@
 -- What the program's tree stands for.
-use Rattle.std.specs.Prelude.{ℕ, List, [], ◌∷◌, vec_items}
+use Rattle.std.specs.Prelude.{List, [], ◌∷◌, vec_items}
 use Rattle.format.specs.Operations.{Op, sha256, append, prepend, reverse, hexlify}
 use Rattle.format.specs.Attestations.{Att, pending, bitcoin, unknown}
 use Rattle.claim_trees.specs.Tree.{Tree, end, more, Held, held}

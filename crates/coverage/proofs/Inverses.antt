@@ -1,12 +1,12 @@
 -- Reading hexadecimal text is the inverse of writing it.
-use Rattle.std.proofs.Common.{◌≡◌, ℕ, ◌+◌, ◌-◌, ◌*◌, ◌/◌, ◌%◌, ◌^◌, ◌<◌, ◌≤◌, Bool, true, false, cond, ◌&&◌, eqb, ltb, leb, List, [], ◌∷◌, length, Some, None, Option, sym, refl, ap, ◌∙◌, subst, arith}
+use Rattle.std.proofs.Common.{◌≡◌, ℕ, ◌+◌, ◌-◌, ◌*◌, ◌/◌, ◌%◌, ◌^◌, ◌<◌, true, ◌&&◌, eqb, List, [], ◌∷◌, length, Some, None, refl, ap, ◌∙◌, subst, arith}
 use Rattle.std.specs.Char.{digit_char}
 use Rattle.std.specs.List.{AllByRecursion as All}
 use Rattle.std.proofs.lemmas.Bool.{and_parts, and_from, eqb-true, eq-eqb, cond_both, both_ways}
 use Rattle.std.proofs.lemmas.Bool.Decides.{nat_tests}
 use Rattle.account.specs.Words.{hex_of}
-use Rattle.coverage.specs.Reading.{hex_digit, hex_value, hex_digits, unhex, written, big, hash_read, bits_read}
-use Rattle.coverage.specs.Inverse.{Hex, HexOr, UnhexInvertsHex, four, BitsOr, BitsInvertHex}
+use Rattle.coverage.specs.Reading.{hex_digit, hex_value, hex_digits, unhex, written, big}
+use Rattle.coverage.specs.Inverse.{HexOr, UnhexInvertsHex, four, BitsOr, BitsInvertHex}
 use Rattle.coverage.proofs.Hexes.{unhex_length}
 
 value_below : (c : ℕ) → hex_value c < 16

@@ -1,5 +1,5 @@
 -- Reading hexadecimal text is the inverse of writing it.
-use Rattle.std.specs.Prelude.{◌≡◌, ℕ, ◌*◌, ◌/◌, ◌%◌, ◌^◌, ◌<◌, List, [], ◌∷◌, length, Some, None, Option, ◌≢◌}
+use Rattle.std.specs.Prelude.{◌≡◌, ℕ, ◌/◌, ◌%◌, ◌^◌, ◌<◌, List, [], ◌∷◌, length, Some, None, Option, ◌≢◌}
 use Rattle.std.specs.List.{AllByRecursion as All}
 use Rattle.account.specs.Words.{hex_of}
 use Rattle.coverage.specs.Reading.{hash_read, bits_read}

@@ -1,7 +1,7 @@
 -- Days before years and months.
-use Rattle.std.proofs.Common.{◌≡◌, ℕ, zero, suc, ◌+◌, ◌-◌, ◌*◌, ◌<◌, ◌≤◌, Bool, true, false, cond, eqb, sym, refl, ap, ◌∙◌, add-one, arith}
+use Rattle.std.proofs.Common.{◌≡◌, ℕ, zero, suc, ◌+◌, ◌-◌, ◌*◌, ◌<◌, ◌≤◌, Bool, true, false, cond, refl, ap, add-one, arith}
 use Rattle.dates.specs.Calendar.{leap, year_days, month_days, days_before_year, days_before_month}
-use Rattle.dates.specs.Utc.{last, year_at, month_at}
+use Rattle.dates.specs.Utc.{year_at, month_at}
 use Rattle.dates.proofs.Places.{Rising, Last, last_is, last_tells}
 
 year_least : (year : ℕ) → 365 ≤ year_days year

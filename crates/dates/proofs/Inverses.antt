@@ -1,8 +1,8 @@
 -- The date of a second, and the seconds before a date.
-use Rattle.std.proofs.Common.{◌≡◌, ℕ, zero, suc, ◌+◌, ◌-◌, ◌*◌, ◌/◌, ◌%◌, ◌<◌, ◌≤◌, sym, refl, ap, ◌∙◌, arith}
+use Rattle.std.proofs.Common.{◌≡◌, ℕ, ◌+◌, ◌-◌, ◌*◌, ◌/◌, ◌%◌, ◌<◌, ◌≤◌, ap, ◌∙◌, arith}
 use Rattle.dates.specs.declared.time.Utc.{Utc}
 use Rattle.dates.specs.Calendar.{year_days, month_days, days_before_year, days_before_month}
-use Rattle.dates.specs.Utc.{IsDate, days_before, counted, year_at, month_at, day_of_year, date_of, utc_of, Inverse, UtcInvertsCounting}
+use Rattle.dates.specs.Utc.{IsDate, days_before, counted, year_at, month_at, day_of_year, date_of, utc_of, UtcInvertsCounting}
 use Rattle.dates.proofs.Days.{years_more, months_more, months_rise, months_whole, year_tells, month_tells, year_is, month_is}
 
 -- the year, and the day of it

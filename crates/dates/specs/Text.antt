@@ -1,5 +1,5 @@
 -- A date and time as text.
-use Rattle.std.specs.Prelude.{ℕ, ◌+◌, ◌/◌, ◌%◌, List, [], ◌∷◌, ◌++◌}
+use Rattle.std.specs.Prelude.{ℕ, ◌+◌, ◌/◌, ◌%◌, List, [], ◌∷◌}
 use Rattle.dates.specs.declared.time.Utc.{Utc}
 
 -- the lowest decimal digit

@@ -1,9 +1,9 @@
 -- What adding answers, case by case, and that a refusal keeps the content.
-use Rattle.std.proofs.Common.{◌≡◌, ℕ, Bool, true, false, cond, List, ◌++◌, length, IsErrAnd, Ok, Err, Result, sym, refl, ap, ◌∙◌, subst}
+use Rattle.std.proofs.Common.{◌≡◌, ℕ, Bool, true, false, cond, List, length, IsErrAnd, Ok, Err, Result, sym, refl, ap, ◌∙◌, subst}
 use Rattle.std.proofs.lemmas.Result.{err_from_is_err_and}
 use Rattle.format.specs.Outcome.{Outcome, got}
 use Rattle.format.specs.Nodes.{Claim}
-use Rattle.format.specs.Files.{Head, Said, file_at}
+use Rattle.format.specs.Files.{Head, Said}
 use Rattle.claim_trees.specs.Tree.{Held}
 use Rattle.claim_trees.specs.Union.{union}
 use Rattle.claim_trees.specs.Gathered.{gathered}
@@ -13,7 +13,6 @@ use Rattle.claim_trees.proofs.Unions.{kept, unique_law}
 use Rattle.proof.specs.declared.fault.Fault.{Fault}
 use Rattle.proof.specs.declared.head.Head.{Head as Read}
 use Rattle.proof.specs.Faults.{numbered}
-use Rattle.proof.specs.Heads.{headed}
 use Rattle.claims.specs.declared.tree.Node.{Node}
 use Rattle.claims.specs.Models.{node}
 use Rattle.gather.specs.declared.trouble.Trouble.{Trouble}
@@ -21,8 +20,8 @@ use Rattle.gather.specs.declared.trouble.Trouble.TheVariants.{File, Memory, Larg
 use Rattle.gather.specs.Trees.{Says, Refused, Heads, Fails, fitting, Gathers}
 use Rattle.gather.proofs.Larger.{passes_right}
 use Rattle.runs.specs.Contents.{Content, about, tree_in}
-use Rattle.runs.specs.Answers.{Answer, granted, refused}
-use Rattle.runs.specs.Adding.{agrees, both, small, joined, joining, adding_by, adding, NeedsMemory, Added}
+use Rattle.runs.specs.Answers.{granted, refused}
+use Rattle.runs.specs.Adding.{agrees, both, small, joined, adding_by, adding, NeedsMemory, Added}
 use Rattle.runs.specs.Invariants.{keeps}
 use Rattle.runs.proofs.Keeping.{tested, tree_lawful}
 use Rattle.dossier.specs.declared.refusal.Refusal.{Refusal}

@@ -1,8 +1,7 @@
 -- What is reported of a blank dossier.
-use Rattle.std.proofs.Common.{◌≡◌, ℕ, ◌+◌, List, ◌++◌, length, take, sym, refl, ap, ◌∙◌, arith}
+use Rattle.std.proofs.Common.{◌≡◌, ℕ, ◌+◌, List, ◌++◌, length, take, sym, ap, ◌∙◌, arith}
 use Rattle.std.proofs.lemmas.List.{take_all}
 use Rattle.judge.specs.Meaning.{Meaning}
-use Rattle.runs.specs.declared.report.Tally.{Tally}
 use Rattle.runs.specs.Contents.{Content, blank}
 use Rattle.runs.specs.Reports.{none_counted, tallied, tally_in}
 use Rattle.runs.specs.Sheets.{lines_from, last_line, sheet_in}

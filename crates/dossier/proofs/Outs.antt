@@ -1,7 +1,7 @@
 -- What stands in an out area that bytes were put into, or that was too short for them.
-use Rattle.std.proofs.Common.{◌≡◌, ℕ, ◌<◌, ◌≤◌, List, ◌++◌, length, drop, sym, refl, ap, ◌∙◌, subst}
+use Rattle.std.proofs.Common.{◌≡◌, ℕ, ◌<◌, ◌≤◌, List, ◌++◌, length, drop, ap, ◌∙◌, subst}
 use Rattle.std.proofs.lemmas.Bool.{cond_below, cond_above}
-use Rattle.runs.specs.Answers.{Answer, granted, refused, fitted, placed}
+use Rattle.runs.specs.Answers.{granted, refused, fitted, placed}
 
 module _ (bytes out : List ℕ) (n : ℕ) (e : n ≡ length bytes) where
   pub too_short : length out < n → refused 16 0 ≡ fitted bytes out

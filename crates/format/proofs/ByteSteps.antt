@@ -1,7 +1,7 @@
 -- Byte strings, one byte at a time: what is left from an index on.
-use Rattle.std.proofs.Common.{◌≡◌, ℕ, zero, suc, ◌+◌, ◌<◌, ◌≤◌, Bool, true, false, cond, ◌&&◌, eqb, ◌≢◌, List, [], ◌∷◌, length, get_or, drop, sym, refl, ap, ◌∙◌, arith}
+use Rattle.std.proofs.Common.{◌≡◌, ℕ, suc, ◌+◌, ◌<◌, ◌≤◌, Bool, true, false, cond, ◌&&◌, eqb, List, [], ◌∷◌, length, get_or, drop, refl, ap, ◌∙◌}
 use Rattle.std.proofs.lemmas.List.{at_drop_more, at_drop_all}
-use Rattle.format.specs.Outcome.{Outcome, got, fault, then}
+use Rattle.format.specs.Outcome.{got, fault, then}
 use Rattle.format.specs.Numbers.{byte_at}
 use Rattle.format.specs.Attestations.{same, address_byte, address_bytes}
 use Rattle.format.specs.Files.{mark_at}

@@ -1,17 +1,15 @@
 -- Claims counted as a walk hands out their attestations.
-use Rattle.std.proofs.Common.{◌≡◌, ℕ, suc, ◌+◌, ◌<◌, ◌≤◌, Bool, true, false, cond, eqb, leb, List, [], ◌∷◌, ◌++◌, length, Some, None, Option, sym, refl, ap, ◌∙◌, subst, ⊎_elim, add-zero, add_assoc, zero-add, arith}
+use Rattle.std.proofs.Common.{◌≡◌, ℕ, ◌+◌, ◌<◌, Bool, true, false, cond, eqb, leb, List, [], ◌∷◌, length, Some, None, Option, sym, refl, ap, ◌∙◌, subst, ⊎_elim, add-zero, add_assoc, zero-add, arith}
 use Rattle.std.proofs.lemmas.Bool.{cond_both, eqb-true, cases_lt}
 use Rattle.format.specs.Outcome.{Outcome, got, fault, then}
 use Rattle.format.specs.Operations.{Op}
-use Rattle.format.specs.Attestations.{Att}
 use Rattle.format.specs.Items.{Piece, operation, attestation}
-use Rattle.format.specs.Nodes.{Claim}
-use Rattle.format.specs.Files.{Head, said, head_at, end_at, start_at, file_at, file_limit}
-use Rattle.format.specs.Walks.{Level, Place, inside, behind, Step, Handed, step_at, next_at, steps_at, top, walked, walk_at, claims_of}
+use Rattle.format.specs.Files.{Head, said, head_at, start_at, file_at, file_limit}
+use Rattle.format.specs.Walks.{Place, inside, behind, Step, Handed, step_at, next_at, steps_at, top, walked, walk_at, claims_of}
 use Rattle.format.specs.Counts.{Counts, counts, plus, one, counts_of, adds}
-use Rattle.format.proofs.Progress.{From, from_then}
+use Rattle.format.proofs.Progress.{From}
 use Rattle.format.proofs.Chains.{then_then, then_same}
-use Rattle.format.proofs.StepsLaw.{steps_by, steps_law, step_from, step_past}
+use Rattle.format.proofs.StepsLaw.{steps_law, step_from, step_past}
 use Rattle.format.proofs.WalkLaw.{items_determine_claims}
 
 -- what the items add

@@ -1,6 +1,6 @@
 -- One byte of a number at a time.
-use Rattle.std.proofs.Common.{◌≡◌, ℕ, zero, suc, ◌+◌, ◌-◌, ◌*◌, ◌^◌, cond, ltb, List, ap}
-use Rattle.format.specs.Outcome.{Outcome, got, fault, then}
+use Rattle.std.proofs.Common.{◌≡◌, ℕ, suc, ◌+◌, ◌-◌, ◌*◌, ◌^◌, cond, ltb, List, ap}
+use Rattle.format.specs.Outcome.{got, fault, then}
 use Rattle.format.specs.Numbers.{byte_at, number_from}
 
 pub number_none : (k : ℕ) (file : List ℕ) (first w v at : ℕ) → k ≡ 0 → number_from k file first w v at ≡ fault 7 first

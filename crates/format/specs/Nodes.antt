@@ -1,6 +1,5 @@
 -- A node: items with ff before each, then a last one without; and its claims.
 use Rattle.std.specs.Prelude.{ℕ, zero, suc, ◌+◌, ◌-◌, Bool, true, false, cond, ◌&&◌, List, [], ◌∷◌, ◌++◌, map, length, ◌==◌, nat_lt, slice_index}
-use Rattle.format.specs.declared.Kind.{Kind}
 use Rattle.format.specs.Outcome.{Outcome, got, fault, then}
 use Rattle.format.specs.Operations.{Op, op_of, result_size}
 use Rattle.format.specs.Attestations.{Att}

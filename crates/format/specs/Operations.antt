@@ -1,8 +1,8 @@
 -- Operations: their tags, arguments and results.
-use Rattle.std.specs.Prelude.{ℕ, ◌+◌, ◌*◌, cond, List, [], length, Some, None, Option, ◌==◌}
+use Rattle.std.specs.Prelude.{ℕ, ◌+◌, ◌*◌, cond, List, [], Some, None, Option, ◌==◌}
 use Rattle.format.specs.declared.Kind.{Kind}
 use Rattle.format.specs.declared.Kind.TheVariants.{Sha256, Append, Prepend, Reverse, Hexlify}
-use Rattle.format.specs.Outcome.{Outcome, got, fault, then}
+use Rattle.format.specs.Outcome.{Outcome, got}
 use Rattle.format.specs.Numbers.{block_at}
 
 -- an operation with its argument; two are equal exactly when their tags and arguments are

@@ -4,7 +4,7 @@ use Rattle.format.specs.Outcome.{Outcome, got, fault, then}
 use Rattle.format.specs.Operations.{Op, op_of, result_size}
 use Rattle.format.specs.Items.{Piece, operation, attestation, item_at}
 use Rattle.format.specs.Nodes.{Claim, claim, more_at}
-use Rattle.format.specs.Files.{Head, Said, said, file_limit, head_at, end_at, file_at}
+use Rattle.format.specs.Files.{Head, said, file_limit, head_at, end_at, file_at}
 
 -- a node that is left for the one below it: whether items follow there, and how long its message is
 pub record Level : Type 0 where

@@ -5,7 +5,6 @@ use Rattle.format.specs.Nodes.{Claim, node_at}
 use Rattle.format.specs.Files.{Head, Said, said, file_limit, head_at, top_at, end_at, start_at, file_at}
 use Rattle.claim_trees.specs.Gathered.{gathered}
 use Rattle.claims.specs.declared.tree.Node.{Node}
-use Rattle.claims.specs.Models.{node}
 use Rattle.gather.specs.declared.trouble.Trouble.{Trouble}
 use Rattle.gather.specs.declared.trouble.Trouble.TheVariants.{File, Memory, Large}
 use Rattle.gather.specs.Trees.{Says}

@@ -1,14 +1,14 @@
 -- More bytes behind a text of headers.
-use Rattle.std.proofs.Common.{◌≡◌, ℕ, zero, suc, ◌+◌, ◌-◌, ◌*◌, ◌<◌, ◌≤◌, Bool, true, false, cond, List, ◌++◌, length, take, drop, Ok, sym, refl, ap, ◌∙◌, subst, arith, length-append, length-drop}
+use Rattle.std.proofs.Common.{◌≡◌, ℕ, zero, suc, ◌+◌, ◌*◌, ◌≤◌, Bool, true, false, cond, List, ◌++◌, length, take, drop, sym, refl, ap, ◌∙◌, subst, arith, length-append, length-drop}
 use Rattle.std.proofs.lemmas.List.{take-append-le, drop-append-le}
 use Rattle.headers.specs.declared.ending.Ending.TheVariants.{Ceiling}
 use Rattle.headers.specs.Targets.{target_of, lawful}
 use Rattle.headers.specs.Headers.{header_at, hash_of, hash_before}
 use Rattle.headers.specs.Steps.{count_limit}
 use Rattle.headers.specs.Following.{is_going_on, passes, covers, run, walked, covered_by}
-use Rattle.headers.specs.Runs.{Extends, MoreBytesExtendTheRun}
+use Rattle.headers.specs.Runs.{MoreBytesExtendTheRun}
 use Rattle.headers.proofs.Firsts.{first_later}
-use Rattle.headers.proofs.Passing.{Room, Passes, room_of, passes_of}
+use Rattle.headers.proofs.Passing.{Passes, room_of, passes_of}
 use Rattle.headers.proofs.Longest.{passing, step_ok, covered_good}
 
 pub header_same : (bytes more : List ℕ) (k : ℕ) → 80 * k + 80 ≤ length bytes → header_at (bytes ++ more) k ≡ header_at bytes k

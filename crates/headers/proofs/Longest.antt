@@ -1,14 +1,13 @@
 -- What the tests cover is the longest run.
-use Rattle.std.proofs.Common.{◌≡◌, ℕ, zero, suc, ◌+◌, ◌-◌, ◌*◌, ◌<◌, ◌≤◌, Bool, true, false, cond, not, eqb, ltb, leb, List, ◌++◌, length, take, drop, Some, None, Ok, Err, Option, Result, sym, refl, ap, ◌∙◌, ⊎_elim, arith, length-append}
+use Rattle.std.proofs.Common.{◌≡◌, ℕ, ◌+◌, ◌-◌, ◌*◌, ◌<◌, ◌≤◌, Bool, true, false, cond, List, length, None, Ok, Err, Result, refl, ap, ◌∙◌, ⊎_elim, arith}
 use Rattle.std.proofs.lemmas.Bool.{cond-false, ne_eqb, lt-leb, le-leb, le-ltb, both_ways, cases_lt, not_from_true, false≢true}
-use Rattle.format.specs.Attestations.{same}
 use Rattle.headers.specs.declared.ending.Ending.{Ending}
 use Rattle.headers.specs.declared.ending.Ending.TheVariants.{Ceiling}
-use Rattle.headers.specs.Targets.{little, target_of, lawful}
-use Rattle.headers.specs.Headers.{header_at, previous_of, bits_of, hash_of, hash_before}
+use Rattle.headers.specs.Targets.{target_of, lawful}
+use Rattle.headers.specs.Headers.{header_at, hash_of, hash_before}
 use Rattle.headers.specs.Steps.{count_limit, height_limit, end_at, tested, step_or, step_at}
-use Rattle.headers.specs.Following.{first_failing, is_going_on, place_in, passes, covers, run, walked, run_of, covered_by}
-use Rattle.headers.specs.Runs.{Good, IsRun, IsLongest, CoversTheLongestRun}
+use Rattle.headers.specs.Following.{first_failing, is_going_on, place_in, passes, covers, run, walked, covered_by}
+use Rattle.headers.specs.Runs.{Good, IsLongest, CoversTheLongestRun}
 use Rattle.headers.proofs.Lawfulness.{lawful_tells, lawful_from}
 use Rattle.headers.proofs.Firsts.{first_is}
 use Rattle.headers.proofs.Sames.{same_tells, same_from}

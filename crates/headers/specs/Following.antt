@@ -1,7 +1,7 @@
 -- The run that the tests give, place by place.
 use Rattle.std.specs.Prelude.{ℕ, zero, suc, ◌+◌, Bool, true, false, cond, List, Ok, Err, Result}
 use Rattle.headers.specs.declared.ending.Ending.{Ending}
-use Rattle.headers.specs.declared.ending.Ending.TheVariants.{Ceiling, Complete, Count, Height, Cut, Link, Bits, Target, Work}
+use Rattle.headers.specs.declared.ending.Ending.TheVariants.{Ceiling, Count}
 use Rattle.headers.specs.declared.ending.Run.{Run}
 use Rattle.headers.specs.Targets.{target_of, lawful}
 use Rattle.headers.specs.Headers.{hash_before}

@@ -2,7 +2,7 @@
 use Rattle.std.specs.Prelude.{ℕ, ◌+◌, ◌*◌, cond, not, List, length, Some, None, Ok, Err, Option, Result, ◌==◌, nat_le, nat_lt}
 use Rattle.format.specs.Attestations.{same}
 use Rattle.headers.specs.declared.ending.Ending.{Ending}
-use Rattle.headers.specs.declared.ending.Ending.TheVariants.{Ceiling, Complete, Count, Height, Cut, Link, Bits, Target, Work}
+use Rattle.headers.specs.declared.ending.Ending.TheVariants.{Complete, Count, Height, Cut, Link, Bits, Target, Work}
 use Rattle.headers.specs.Targets.{little, target_of, lawful}
 use Rattle.headers.specs.Headers.{header_at, previous_of, bits_of, hash_of}
 

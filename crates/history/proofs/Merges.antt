@@ -1,11 +1,9 @@
 -- What a merge rests on: the law of runs, at the run that the merge makes.
-use Rattle.std.proofs.Common.{◌≡◌, ℕ, ◌+◌, ◌<◌, ◌≤◌, ◌⊎◌, List, [], ◌∷◌, ◌++◌, map, length, get_or, take, Some, sym, refl, ap, ◌∙◌, subst, inl, inr, ⊎_elim, arith, take_all}
+use Rattle.std.proofs.Common.{◌≡◌, ℕ, ◌+◌, ◌<◌, ◌≤◌, ◌⊎◌, List, [], ◌∷◌, ◌++◌, length, get_or, take, Some, sym, refl, ap, ◌∙◌, subst, inl, inr, ⊎_elim, arith, take_all}
 use Rattle.std.specs.List.{slice_get}
 use Rattle.std.proofs.lemmas.List.{take_more, get_or-map, length-map}
 use Rattle.std.proofs.lemmas.Option.{slice_get-get_or}
-use Rattle.format.specs.Outcome.{got}
 use Rattle.format.specs.Nodes.{Claim}
-use Rattle.format.specs.Files.{Said, file_at}
 use Rattle.claim_trees.specs.Tree.{In}
 use Rattle.replay.specs.Areas.{left}
 use Rattle.judge.specs.Meaning.{Meaning}

@@ -10,7 +10,7 @@ use Rattle.runs.specs.Answers.{Answer, granted}
 use Rattle.runs.specs.Adding.{Added}
 use Rattle.runs.specs.Writing.{Wrote}
 use Rattle.runs.specs.Sheets.{Listed as Listed-sheet}
-use Rattle.runs.specs.Runs.{Event, add, Step, Run, begun, then}
+use Rattle.runs.specs.Runs.{Event, add, Run, begun, then}
 use Rattle.runs.specs.Law.{Refusal as Refusal-answer}
 use Rattle.runs.proofs.Refusing.{refusals}
 use Rattle.dossier.specs.declared.refusal.Refusal.{Refusal}
@@ -19,7 +19,7 @@ use Rattle.history.specs.declared.call.Call.{Call}
 use Rattle.history.specs.declared.call.Call.TheVariants as call
 use Rattle.history.specs.declared.entry.Entry.{Entry}
 use Rattle.history.specs.declared.entry.Entry.TheVariants.{Wrote as Wrote-entry, Listed as Listed-entry}
-use Rattle.history.specs.Scripts.{Records, an_add, a_settle, a_reopen, a_write, no_write, a_row, a_tally, a_sheet, no_sheet, FileRecorded, SheetRecorded, Refuses, One, taken, not_taken, Script, start, more, skip}
+use Rattle.history.specs.Scripts.{an_add, a_settle, a_reopen, a_write, no_write, a_row, a_tally, a_sheet, no_sheet, FileRecorded, SheetRecorded, Refuses, One, taken, not_taken, Script, start, more, skip}
 
 -- ---- calls that are not taken
 

@@ -1,5 +1,5 @@
 -- The covered headers alone mean as much as all the bytes.
-use Rattle.std.proofs.Common.{◌≡◌, ℕ, ◌+◌, ◌-◌, ◌*◌, ◌/◌, ◌<◌, ◌≤◌, Bool, true, false, cond, ◌&&◌, ltb, leb, List, length, take, drop, sym, refl, ap, ◌∙◌, ⊎_elim, arith, length-drop}
+use Rattle.std.proofs.Common.{◌≡◌, ℕ, ◌+◌, ◌-◌, ◌*◌, ◌/◌, ◌<◌, ◌≤◌, cond, ◌&&◌, ltb, leb, List, length, take, drop, sym, refl, ap, ◌∙◌, ⊎_elim, arith}
 use mathlib.Core.Path.{fun_ext}
 use Rattle.std.proofs.lemmas.List.{length-take-le, take-take, drop-take}
 use Rattle.std.proofs.lemmas.Bool.{and_parts, ltb-true, cases_Bool, cases_lt, cond-true, cond-false}
@@ -8,8 +8,8 @@ use Rattle.format.specs.Attestations.{same, bitcoin_tag, height_at}
 use Rattle.headers.specs.Headers.{header_at, root_of, time_of}
 use Rattle.headers.specs.Following.{covered_by}
 use Rattle.headers.proofs.Longest.{covered_good}
-use Rattle.judge.specs.Meaning.{Ruling, confirmed, rejected, waiting, ruled_by, Meaning}
-use Rattle.judge.specs.HeaderRules.{ruled_at, by_headers, standing, header_meaning}
+use Rattle.judge.specs.Meaning.{Ruling, confirmed, rejected, ruled_by, Meaning}
+use Rattle.judge.specs.HeaderRules.{ruled_at, standing, header_meaning}
 
 -- what is covered lies within the bytes
 pub covered_within : (base : ℕ) (previous : List ℕ) (ceiling : ℕ) (bytes : List ℕ) → 80 * covered_by base previous ceiling bytes ≤ length bytes

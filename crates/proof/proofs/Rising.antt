@@ -1,6 +1,6 @@
 -- The levels of a walk, one at a time.
-use Rattle.std.proofs.Common.{◌≡◌, ℕ, zero, suc, ◌+◌, ◌<◌, ◌≤◌, Bool, false, cond, ◌≢◌, List, [], ◌∷◌, length, get_or, set, sym, refl, ap, ◌∙◌, add-one, arith, get_or-set_other, get_or-set_same}
-use Rattle.format.specs.Walks.{Level, level, Place, inside, behind, risen}
+use Rattle.std.proofs.Common.{◌≡◌, ℕ, zero, suc, ◌+◌, ◌<◌, ◌≤◌, Bool, false, cond, ◌≢◌, List, ◌∷◌, length, get_or, set, refl, ap, ◌∙◌, add-one, arith, get_or-set_other, get_or-set_same}
+use Rattle.format.specs.Walks.{level, inside, behind, risen}
 use Rattle.proof.specs.Levels.{levels_of}
 
 pub levels_none : (more : List Bool) (sizes : List ℕ) (d : ℕ) → d ≡ 0 → risen (levels_of more sizes d) ≡ behind

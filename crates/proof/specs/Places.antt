@@ -1,5 +1,5 @@
 -- Where a walk stands, and what it hands out.
-use Rattle.std.specs.Prelude.{ℕ, cond, Some, None, Ok, Err, Option, Result}
+use Rattle.std.specs.Prelude.{cond, Some, None, Ok, Err, Option, Result}
 use Rattle.format.specs.Outcome.{Outcome, got, fault}
 use Rattle.format.specs.Files.{Head}
 use Rattle.format.specs.Walks.{Place, inside, behind, Handed, handed, step}

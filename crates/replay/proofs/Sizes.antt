@@ -1,7 +1,6 @@
 -- How long the messages are that operations make.
-use Rattle.std.proofs.Common.{◌≡◌, ℕ, zero, suc, ◌+◌, ◌*◌, ◌/◌, List, [], ◌∷◌, ◌++◌, length, refl, ap, ◌∙◌, add_comm, arith}
+use Rattle.std.proofs.Common.{◌≡◌, ℕ, zero, suc, ◌*◌, ◌/◌, List, [], ◌∷◌, length, refl, ap, ◌∙◌, add_comm, arith}
 use Rattle.std.proofs.lemmas.List.{length-append, length-reverse}
-use Rattle.format.specs.declared.Kind.{Kind}
 use Rattle.format.specs.declared.Kind.TheVariants.{Sha256, Append, Prepend, Reverse, Hexlify}
 use Rattle.sha256.specs.Sha256.{H0, padded, added, block_step, hash_value, final_hash, digest, sha256}
 use Rattle.replay.specs.Laws.{SizesAreLengths, PathsGoOn}

@@ -1,7 +1,7 @@
 -- A path step by step: the sizes of the messages on the way, and the messages.
-use Rattle.std.proofs.Common.{◌≡◌, ℕ, ◌+◌, ◌<◌, ◌≤◌, Bool, true, false, cond, ◌&&◌, leb, List, [], ◌∷◌, length, get_or, drop, Some, None, Option, sym, refl, ap, ◌∙◌, subst, arith}
+use Rattle.std.proofs.Common.{◌≡◌, ℕ, ◌+◌, ◌<◌, ◌≤◌, Bool, true, false, cond, ◌&&◌, leb, List, [], ◌∷◌, length, get_or, drop, Some, None, Option, sym, refl, ap, ◌∙◌, arith}
 use Rattle.std.proofs.lemmas.List.{at_drop_more, at_drop_all}
-use Rattle.std.proofs.lemmas.Bool.{leb-true, leb-false, le-leb, lt-leb, and_left, and_parts}
+use Rattle.std.proofs.lemmas.Bool.{leb-true, le-leb, lt-leb, and_left, and_parts}
 use Rattle.format.specs.declared.Kind.TheVariants.{Sha256}
 use Rattle.format.specs.Operations.{op_of, result_size}
 use Rattle.replay.specs.declared.link.Link.{Link}

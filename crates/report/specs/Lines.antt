@@ -1,5 +1,5 @@
 -- The lines of a report.
-use Rattle.std.specs.Prelude.{ℕ, cond, List, [], ◌∷◌, ◌++◌, length, Some, None, codes, decimal, Option, ◌==◌}
+use Rattle.std.specs.Prelude.{ℕ, cond, List, [], ◌++◌, length, Some, None, codes, decimal, Option, ◌==◌}
 use Rattle.runs.specs.declared.report.Date.{Date}
 use Rattle.runs.specs.declared.report.Tally.{Tally}
 use Rattle.dossier.specs.declared.refusal.Refusal.{Refusal}

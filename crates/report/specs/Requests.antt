@@ -1,5 +1,5 @@
 -- What a list of words asks for.
-use Rattle.std.specs.Prelude.{ℕ, ◌+◌, Bool, true, false, cond, ◌&&◌, List, [], ◌∷◌, length, drop, Ok, Err, Result, nat_lt, slice_index_or}
+use Rattle.std.specs.Prelude.{ℕ, ◌+◌, true, false, cond, ◌&&◌, List, [], ◌∷◌, length, drop, Ok, Err, Result, nat_lt, slice_index_or}
 use Rattle.report.specs.declared.options.Request.{Request}
 use Rattle.report.specs.declared.options.Wrong.{Wrong}
 use Rattle.report.specs.Options.{named_by, is_paired, is_piece, stepped, no_request}

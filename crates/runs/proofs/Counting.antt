@@ -1,9 +1,8 @@
 -- How a tally comes to count the claims with each verdict.
-use Rattle.std.proofs.Common.{◌≡◌, ℕ, ◌+◌, Bool, true, false, cond, ◌⊎◌, List, [], ◌∷◌, length, sym, refl, ap, ◌∙◌, subst, inl, inr, ⊎_elim, arith}
+use Rattle.std.proofs.Common.{◌≡◌, ℕ, ◌+◌, Bool, true, false, cond, ◌⊎◌, List, [], ◌∷◌, length, sym, refl, ap, ◌∙◌, inl, inr, ⊎_elim, arith}
 use Rattle.format.specs.Nodes.{Claim}
 use Rattle.format.specs.FirstFault.{Iff}
 use Rattle.claim_trees.specs.Tree.{In, Apart}
-use Rattle.claim_trees.specs.Size.{Lists}
 use Rattle.judge.specs.declared.verdict.Verdict.{Verdict}
 use Rattle.judge.specs.declared.verdict.Verdict.TheVariants.{Confirmed, Rejected, Waiting, Foreign}
 use Rattle.runs.specs.declared.report.Tally.{Tally}

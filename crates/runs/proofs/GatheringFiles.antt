@@ -1,7 +1,7 @@
 -- A dossier holds exactly the claims of the files that were granted.
-use Rattle.std.proofs.Common.{◌≡◌, ℕ, Bool, true, false, ◌&&◌, eqb, ◌⊎◌, List, [], ◌∷◌, Some, None, Option, sym, refl, ap, ◌∙◌, subst, inl, inr, ⊎_elim}
+use Rattle.std.proofs.Common.{◌≡◌, ℕ, true, eqb, List, [], ◌∷◌, Some, None, Option, sym, refl, ap, ◌∙◌, subst, inl, inr, ⊎_elim}
 use Rattle.std.proofs.lemmas.Bool.{and_parts, eqb-true}
-use Rattle.format.specs.Outcome.{Outcome, got, fault}
+use Rattle.format.specs.Outcome.{Outcome, got}
 use Rattle.format.specs.Attestations.{same}
 use Rattle.format.specs.Nodes.{Claim}
 use Rattle.format.specs.Files.{Said, file_at}
@@ -14,8 +14,8 @@ use Rattle.runs.specs.Contents.{Content, blank, about, tree_in, claims_in, diges
 use Rattle.runs.specs.Answers.{granted}
 use Rattle.runs.specs.Adding.{agrees, joined}
 use Rattle.runs.specs.Runs.{Event, add, Run, begun, then}
-use Rattle.runs.specs.Law.{Granted, Union, Digests, DigestOf, Gathered, Gathers, Same, SameGrants}
-use Rattle.runs.proofs.Stepping.{differ, Grants, Change, joins, stays, change}
+use Rattle.runs.specs.Law.{Granted, Union, DigestOf, Gathered, Gathers, Same, SameGrants}
+use Rattle.runs.proofs.Stepping.{differ, Change, joins, stays, change}
 
 gathered_blank : Gathered [] blank
 gathered_blank = record {

@@ -1,12 +1,11 @@
 -- Every dossier of a run keeps a lawful tree within the limits.
-use Rattle.std.proofs.Common.{◌≡◌, ℕ, ◌+◌, ◌<◌, ◌≤◌, Bool, true, false, ◌&&◌, eqb, ltb, leb, ◌⊎◌, List, [], ◌∷◌, length, sym, refl, ap, ◌∙◌, subst, inl, inr, arith}
+use Rattle.std.proofs.Common.{◌≡◌, ℕ, ◌+◌, ◌<◌, ◌≤◌, true, ◌&&◌, eqb, ltb, leb, List, [], ◌∷◌, length, sym, refl, subst, inl, inr, arith}
 use Rattle.std.proofs.lemmas.Bool.{and_parts, and_from, le-leb, leb-true, eqb-true, eq-eqb}
 use Rattle.format.specs.declared.Kind.TheVariants.{Sha256, Append, Prepend, Reverse, Hexlify}
 use Rattle.format.specs.Operations.{Op, sha256, append, prepend, reverse, hexlify, message_limit, path_limit}
 use Rattle.format.specs.Nodes.{Claim}
-use Rattle.format.specs.Files.{Said}
 use Rattle.claim_trees.specs.Tree.{Held, In, filled}
-use Rattle.claim_trees.specs.Lawful.{lawful, result_of, argument_fits, op_fits, path_fits, att_fits, claim_fits, every}
+use Rattle.claim_trees.specs.Lawful.{lawful, result_of, argument_fits, op_fits, path_fits, att_fits, claim_fits}
 use Rattle.claim_trees.specs.Gathered.{gathered}
 use Rattle.claim_trees.specs.Laws.{claims_of, Lawful}
 use Rattle.claim_trees.proofs.Gathering.{union_in, gathered_holds, filled_from, alike_same}
@@ -16,7 +15,7 @@ use Rattle.replay.specs.Messages.{apply, fits}
 use Rattle.replay.proofs.Sizes.{sizes_are_lengths}
 use Rattle.runs.specs.Contents.{Content, blank, about, tree_in, Dossier, opened, content}
 use Rattle.runs.specs.Answers.{Answer}
-use Rattle.runs.specs.Adding.{both, joined, small, Added}
+use Rattle.runs.specs.Adding.{both, small, Added}
 use Rattle.runs.specs.Invariants.{keeps_tree, keeps}
 use Rattle.runs.specs.Runs.{Event, add, Run, begun, then}
 use Rattle.runs.specs.Law.{KeptTree, Kept, Keeps, Tested}

@@ -1,5 +1,5 @@
 -- A refusal keeps the dossier and the out area.
-use Rattle.std.proofs.Common.{◌≡◌, ℕ, Bool, true, false, cond, ltb, List, ◌++◌, length, drop, sym, refl, ap, ◌∙◌, subst}
+use Rattle.std.proofs.Common.{◌≡◌, ℕ, Bool, true, false, cond, ltb, List, ◌++◌, length, drop, refl, ap, ◌∙◌, subst}
 use Rattle.format.specs.Operations.{message_limit}
 use Rattle.claim_trees.specs.Bytes.{file_bytes}
 use Rattle.judge.specs.Meaning.{Meaning}

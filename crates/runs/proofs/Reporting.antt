@@ -1,14 +1,9 @@
 -- Rows, tallies and sheets that were granted are true.
-use Rattle.std.proofs.Common.{◌≡◌, ℕ, zero, suc, Bool, true, false, cond, ltb, ◌⊎◌, List, [], ◌∷◌, ◌++◌, map, length, take, drop, Some, None, Option, sym, refl, ap, ◌∙◌, subst, inl, inr}
+use Rattle.std.proofs.Common.{◌≡◌, ℕ, zero, suc, Bool, true, false, cond, ltb, List, [], ◌∷◌, map, length, Some, None, Option, sym, refl, ap, subst}
 use Rattle.std.specs.List.{slice_get}
 use Rattle.format.specs.Operations.{message_limit}
-use Rattle.format.specs.Nodes.{Claim}
-use Rattle.claim_trees.specs.Tree.{In, Apart}
-use Rattle.claim_trees.specs.Size.{Lists}
 use Rattle.claim_trees.proofs.Ascending.{written_rising, claims_apart}
 use Rattle.claim_trees.proofs.Unions.{kept}
-use Rattle.judge.specs.declared.verdict.Verdict.{Verdict}
-use Rattle.judge.specs.declared.verdict.Verdict.TheVariants.{Confirmed}
 use Rattle.judge.specs.Meaning.{Meaning}
 use Rattle.runs.specs.declared.report.Row.{Row}
 use Rattle.runs.specs.declared.report.Date.{Date}
@@ -18,12 +13,12 @@ use Rattle.runs.specs.Answers.{Answer, granted, refused, fitted, placed}
 use Rattle.runs.specs.Reports.{verdict_on, row_on, rows_in, as_row, tally_in, Read, Tallied}
 use Rattle.runs.specs.Sheets.{sheet_in, Listed}
 use Rattle.runs.specs.Runs.{Event, row, tally, sheet, Step, Run, then}
-use Rattle.runs.specs.Law.{Kept, Rows, ConfirmedRow, Earliest, Dated, TrueTally, Tallies, TrueRow, Reads, TrueSheet, ListsRows, Clears}
+use Rattle.runs.specs.Law.{Kept, Rows, ConfirmedRow, Dated, TrueTally, Tallies, Reads, ListsRows, Clears}
 use Rattle.runs.proofs.Stepping.{differ}
 use Rattle.runs.proofs.Keeping.{keep}
 use Rattle.runs.proofs.WritingFiles.{Put, put}
 use Rattle.runs.proofs.Counting.{confirmed_counted, rejected_counted, waiting_counted, foreign_counted}
-use Rattle.runs.proofs.Dating.{First, Best, dated}
+use Rattle.runs.proofs.Dating.{Best, dated}
 
 -- ---- the claims in written order
 

@@ -1,11 +1,11 @@
 -- What a step changes: an add that was granted joins its file, every other call keeps the content.
-use Rattle.std.proofs.Common.{◌≡◌, ℕ, Bool, true, false, cond, ◌⊎◌, List, [], ◌∷◌, ◌++◌, sym, refl, ap, ◌∙◌, subst, inl, inr, arith}
+use Rattle.std.proofs.Common.{◌≡◌, ℕ, Bool, true, false, cond, List, [], ◌∷◌, sym, refl, ◌∙◌, arith}
 use Rattle.format.specs.Outcome.{Outcome, got, fault}
 use Rattle.format.specs.Files.{Said, file_at}
 use Rattle.runs.specs.Contents.{Content, Dossier, opened, settled, content}
 use Rattle.runs.specs.Answers.{Answer, granted, refused, memory}
-use Rattle.runs.specs.Adding.{agrees, both, joined, small, joining, adding_by, adding, Added}
-use Rattle.runs.specs.Runs.{Event, add, settle, reopen, write, row, tally, sheet, Step, Run, begun, then}
+use Rattle.runs.specs.Adding.{agrees, both, joined, small, adding_by, adding, Added}
+use Rattle.runs.specs.Runs.{Event, add, settle, reopen, write, row, tally, sheet, Step, then}
 use Rattle.runs.specs.Law.{Begins, Protocol, OneOutcome}
 
 pub differ : {P : Type 0} → ◌≡◌ {A = ℕ} 0 1 → P

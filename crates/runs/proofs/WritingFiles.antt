@@ -1,8 +1,8 @@
 -- What a granted write put into the out area, and when two files are equal.
-use Rattle.std.proofs.Common.{◌≡◌, ℕ, ◌<◌, Bool, true, false, cond, ltb, List, [], ◌∷◌, ◌++◌, length, take, drop, Some, sym, refl, ap, ◌∙◌, subst, arith}
+use Rattle.std.proofs.Common.{◌≡◌, ℕ, ◌<◌, Bool, true, false, cond, ltb, List, ◌∷◌, ◌++◌, length, take, drop, Some, sym, refl, ap, ◌∙◌, subst}
 use lib.Seq.{take-append_seam, drop-append_seam}
 use Rattle.format.specs.Outcome.{Outcome, got}
-use Rattle.format.specs.Nodes.{Claim, claim}
+use Rattle.format.specs.Nodes.{claim}
 use Rattle.format.specs.Files.{Said, said, head, file_at}
 use Rattle.format.specs.FirstFault.{Iff}
 use Rattle.claim_trees.specs.Tree.{Held, Alike}
@@ -16,7 +16,7 @@ use Rattle.claim_trees.proofs.Gathering.{alike_same, alike_back, alike_trans, ho
 use Rattle.claim_trees.proofs.Unions.{kept}
 use Rattle.claim_trees.proofs.WrittenFiles.{written_law}
 use Rattle.claim_trees.proofs.CanonicalFiles.{canonical_law}
-use Rattle.runs.specs.Contents.{Content, blank, about, claims_in, digest_in, Dossier, opened, settled, content}
+use Rattle.runs.specs.Contents.{Content, blank, about, claims_in, Dossier, opened, settled, content}
 use Rattle.runs.specs.Answers.{Answer, granted, refused, fitted, placed}
 use Rattle.runs.specs.Writing.{Wrote}
 use Rattle.runs.specs.Runs.{Event, write, Step, Run, then}

@@ -1,5 +1,5 @@
 -- A sheet to try: one claim of height 0, confirmed at the time of the first block.
-use Rattle.std.specs.Prelude.{◌≡◌, ℕ, List, [], ◌∷◌, ◌++◌, Some, codes}
+use Rattle.std.specs.Prelude.{◌≡◌, [], ◌∷◌, ◌++◌, Some, codes}
 use Rattle.format.specs.Attestations.{bitcoin_tag}
 use Rattle.judge.specs.declared.verdict.Verdict.TheVariants.{Confirmed}
 use Rattle.runs.specs.declared.report.Row.{Row}

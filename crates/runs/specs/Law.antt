@@ -1,11 +1,11 @@
 -- What holds of every run.
-use Rattle.std.specs.Prelude.{◌≡◌, ℕ, ◌<◌, ◌≤◌, true, ◌⊎◌, List, [], ◌∷◌, ◌++◌, map, length, take, drop, Some, None, Option, ◌≢◌}
+use Rattle.std.specs.Prelude.{◌≡◌, ℕ, ◌<◌, ◌≤◌, true, ◌⊎◌, List, ◌∷◌, ◌++◌, map, length, take, drop, Some, None, Option, ◌≢◌}
 use Rattle.std.specs.List.{slice_get}
 use Rattle.format.specs.Outcome.{got}
 use Rattle.format.specs.Nodes.{Claim}
 use Rattle.format.specs.Files.{Said, said, head, file_at}
 use Rattle.format.specs.FirstFault.{Iff}
-use Rattle.claim_trees.specs.Tree.{Held, In, Alike, Apart, filled}
+use Rattle.claim_trees.specs.Tree.{Held, In, Alike, filled}
 use Rattle.claim_trees.specs.Order.{claim_order, rising}
 use Rattle.claim_trees.specs.Size.{Lists}
 use Rattle.claim_trees.specs.Gathered.{written}

@@ -1,5 +1,5 @@
 -- Rows and tallies: what a judge says of the claims that a dossier holds.
-use Rattle.std.specs.Prelude.{◌≡◌, ℕ, ◌+◌, Bool, cond, List, [], ◌∷◌, map, length, Some, None, Option, nat_lt}
+use Rattle.std.specs.Prelude.{◌≡◌, ℕ, ◌+◌, cond, List, [], ◌∷◌, map, length, Some, None, Option, nat_lt}
 use Rattle.std.specs.List.{slice_get}
 use Rattle.format.specs.Operations.{message_limit}
 use Rattle.format.specs.Nodes.{Claim}

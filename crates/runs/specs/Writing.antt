@@ -2,7 +2,7 @@
 use Rattle.std.specs.Prelude.{◌≡◌, ℕ, List}
 use Rattle.claim_trees.specs.Bytes.{file_bytes}
 use Rattle.runs.specs.Contents.{Content, blank, about}
-use Rattle.runs.specs.Answers.{Answer, granted, refused, fitted, placed}
+use Rattle.runs.specs.Answers.{Answer, refused, fitted, placed}
 
 -- 15 of a blank dossier; else the length of the file, or 16
 abbrev pub writing : Content → List ℕ → Answer ℕ

@@ -1,7 +1,6 @@
 -- The text of an answer: the same in every implementation.
-use Rattle.std.specs.Prelude.{ℕ, List, [], ◌∷◌, ◌++◌, length, Some, None, Ok, Err, codes, decimal, Option, Result}
+use Rattle.std.specs.Prelude.{ℕ, List, ◌++◌, length, Some, None, Ok, Err, codes, decimal, Option, Result}
 use Rattle.sha256.specs.Sha256.{sha256}
-use Rattle.judge.specs.declared.verdict.Verdict.{Verdict}
 use Rattle.runs.specs.declared.report.Row.{Row}
 use Rattle.runs.specs.declared.report.Date.{Date}
 use Rattle.runs.specs.declared.report.Tally.{Tally}

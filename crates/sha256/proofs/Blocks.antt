@@ -1,7 +1,7 @@
 -- The blocks of a message in two parts, and the law of the padding.
-use Rattle.std.proofs.Common.{◌≡◌, ℕ, zero, suc, ◌+◌, ◌-◌, ◌*◌, ◌/◌, ◌%◌, ◌≤◌, List, [], ◌∷◌, ◌++◌, length, take, drop, sym, refl, ap, ◌∙◌, add-zero, add-suc, arith}
+use Rattle.std.proofs.Common.{◌≡◌, ℕ, zero, suc, ◌+◌, ◌-◌, ◌*◌, ◌/◌, ◌%◌, ◌≤◌, List, ◌++◌, length, take, drop, sym, refl, ap, ◌∙◌, add-zero, add-suc, arith}
 use Rattle.std.proofs.lemmas.List.{take-append-le, drop-append-le, drop-drop, drop_at, length-drop, take-append-drop, length-take-le, append_assoc, length-append, length-replicate}
-use Rattle.sha256.specs.Sha256.{H0, zeros, padding, padded, block_step, hash_value, PaddingIsLeast}
+use Rattle.sha256.specs.Sha256.{H0, zeros, padding, padded, hash_value, PaddingIsLeast}
 
 -- what follows the blocks does not matter
 hash_value_front :

@@ -1,5 +1,5 @@
 -- Bytes written over others: the last blocks as they are made, and the digest word by word.
-use Rattle.std.proofs.Common.{◌≡◌, ℕ, zero, suc, ◌+◌, ◌-◌, ◌<◌, ◌≤◌, List, [], ◌∷◌, ◌++◌, length, take, drop, set, replicate, sym, refl, ap, ◌∙◌, arith}
+use Rattle.std.proofs.Common.{◌≡◌, ℕ, suc, ◌+◌, ◌-◌, ◌≤◌, List, [], ◌∷◌, ◌++◌, length, take, drop, set, replicate, refl, ap, ◌∙◌, arith}
 use Rattle.std.proofs.lemmas.List.{take_at, length-append, length-take-le, length-drop, append_assoc, set_at, drop-replicate, length-replicate, replicate-append-replicate}
 use Rattle.sha256.specs.Words.{word_bytes}
 use Rattle.sha256.specs.Sha256.{digest}

@@ -1,6 +1,5 @@
 -- The operations on 32-bit words that SHA-256 is built from. A word is a number below 2 ^ 32, a byte one below 256.
 use Rattle.std.specs.Prelude.{ℕ, ◌+◌, ◌-◌, ◌*◌, ◌/◌, ◌%◌, ◌^◌, List, [], ◌∷◌, bit_or, slice_index}
-use Rattle.std.specs.Int.Bits.{bit_and, bit_xor}
 
 -- ROTR: x turned right by n places, for 0 < n < 32
 abbrev pub ROTR : ℕ → ℕ → ℕ

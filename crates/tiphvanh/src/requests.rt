@@ -39,7 +39,7 @@ fn unreadable(rt: &HostRuntime, path: Option<&str>, error: io::Error) -> anyhow:
     if let Some(path) = path {
         let _ = eprintln!(rt; "tiphvanh: cannot read {path}: {error}");
     }
-    "unreadable".into()
+    anyhow!("unreadable")
 }
 
 // The texts of the judges that were asked for.

@@ -1,4 +1,4 @@
-use Rattle.std.proofs.Common.{◌≡◌, ◌-◌, ◌*◌, ◌<◌, ◌≤◌, length, ap, ⊎_elim, arith}
+use Rattle.std.proofs.Common.{◌≡◌, ap, arith}
 use Rattle.headers.specs.Following.{covered_by}
 use Rattle.headers.proofs.Longest.{covers_the_longest_run}
 use Rattle.judge.proofs.Standing.{covered_within}

@@ -1,5 +1,5 @@
-use Rattle.std.proofs.Common.{◌≡◌, ◌+◌, ◌-◌, ◌<◌, ◌≤◌, sym, ap, ◌∙◌, arith}
-use Rattle.dates.specs.Calendar.{month_days, year_days, days_before_month}
+use Rattle.std.proofs.Common.{◌≡◌, ◌+◌, sym, ap, ◌∙◌, arith}
+use Rattle.dates.specs.Calendar.{month_days, days_before_month}
 use Rattle.dates.specs.Utc.{month_at}
 use Rattle.dates.proofs.Days.{months_zero, months_more, months_whole, month_is}
 use Rattle.dates.proofs.utc.month_at.Goals as goal

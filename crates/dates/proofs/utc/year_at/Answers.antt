@@ -1,4 +1,4 @@
-use Rattle.std.proofs.Common.{◌≡◌, ◌+◌, ◌-◌, ◌<◌, ◌≤◌, sym, ap, ◌∙◌, arith}
+use Rattle.std.proofs.Common.{◌≡◌, ◌+◌, ◌<◌, sym, ap, ◌∙◌, arith}
 use Rattle.dates.specs.Calendar.{year_days, days_before_year}
 use Rattle.dates.specs.Utc.{year_at}
 use Rattle.dates.proofs.Days.{years_zero, years_more, year_is}

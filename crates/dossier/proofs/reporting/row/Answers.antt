@@ -1,8 +1,7 @@
-use Rattle.std.proofs.Common.{◌≡◌, sym, ap, ◌∙◌}
+use Rattle.std.proofs.Common.{◌∙◌}
 use Rattle.std.proofs.lemmas.Bool.{cond_above}
 use Rattle.std.specs.List.{slice_get}
 use Rattle.replay.proofs.Leaving.{guards_leave}
-use Rattle.runs.specs.Answers.{refused}
 use Rattle.runs.specs.Reports.{rows_in, as_row}
 use Rattle.dossier.specs.Models.{content_of}
 use Rattle.dossier.specs.Refusals.{answered}

@@ -1,4 +1,4 @@
-use Rattle.std.proofs.Common.{◌≡◌, refl, ap, ◌∙◌}
+use Rattle.std.proofs.Common.{refl, ap, ◌∙◌}
 use Rattle.dossier.specs.Models.{content_of}
 use Rattle.dossier.proofs.Blanks.{blank_tally}
 use Rattle.dossier.proofs.reporting.tally_in.Goals as goal

@@ -1,4 +1,4 @@
-use Rattle.std.proofs.Common.{◌≡◌, length, refl, ap, ◌∙◌}
+use Rattle.std.proofs.Common.{length, refl, ap, ◌∙◌}
 use Rattle.runs.specs.declared.report.Tally.{Tally}
 use Rattle.runs.specs.Sheets.{last_line}
 use Rattle.dossier.specs.Models.{content_of}

@@ -1,4 +1,4 @@
-use Rattle.std.proofs.Common.{◌≡◌, length, sym, refl, ap, ◌∙◌}
+use Rattle.std.proofs.Common.{length, sym, refl, ap, ◌∙◌}
 use Rattle.dossier.specs.Models.{content_of}
 use Rattle.dossier.proofs.Blanks.{blank_sheet}
 use Rattle.dossier.proofs.sheeting.put.Goals as goal

@@ -1,4 +1,4 @@
-use Rattle.std.proofs.Common.{◌≡◌, length, sym, ap, ◌∙◌, subst}
+use Rattle.std.proofs.Common.{length, sym, ap, ◌∙◌}
 use Rattle.runs.specs.declared.report.Tally.{Tally}
 use Rattle.runs.specs.Sheets.{last_line}
 use Rattle.dossier.proofs.Blanks.{whole_put}

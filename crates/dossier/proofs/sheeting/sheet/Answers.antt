@@ -1,4 +1,4 @@
-use Rattle.std.proofs.Common.{◌≡◌, sym, ap, ◌∙◌}
+use Rattle.std.proofs.Common.{◌∙◌}
 use Rattle.std.proofs.lemmas.Bool.{cond_above}
 use Rattle.replay.proofs.Leaving.{guards_leave}
 use Rattle.runs.specs.Answers.{fitted, placed}

@@ -1,4 +1,4 @@
-use Rattle.std.proofs.Common.{◌≡◌, sym, refl, ap, ◌∙◌}
+use Rattle.std.proofs.Common.{◌∙◌}
 use native.Mathlib.Nat.{sub-zero}
 use Rattle.runs.specs.Sheets.{sheet_in}
 use Rattle.dossier.specs.Models.{content_of}

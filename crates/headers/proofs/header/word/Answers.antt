@@ -1,4 +1,4 @@
-use Rattle.std.proofs.Common.{arith, rules}
+use Rattle.std.proofs.Common.{rules}
 use Rattle.headers.proofs.Little.{little_four}
 use Rattle.headers.proofs.header.word.Goals as goal
 

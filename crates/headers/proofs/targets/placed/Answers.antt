@@ -1,4 +1,4 @@
-use Rattle.std.proofs.Common.{◌≡◌, ℕ, ◌*◌, ◌%◌, ◌^◌, ◌<◌, max, length, refl, ◌∙◌, mul_comm, zero-add, arith}
+use Rattle.std.proofs.Common.{◌≡◌, ◌%◌, ◌^◌, ◌<◌, max, length, refl, ◌∙◌, mul_comm, zero-add, arith}
 use Rattle.std.proofs.lemmas.List.{length-set}
 use Rattle.headers.specs.Targets.{little}
 use Rattle.headers.proofs.Little.{place_zero, place_byte, place_below, no_room, room}

@@ -1,4 +1,4 @@
-use Rattle.std.proofs.Common.{◌≡◌, ◌*◌, ◌^◌, subst, arith}
+use Rattle.std.proofs.Common.{◌≡◌, ◌*◌, ◌^◌, arith}
 use Rattle.headers.specs.Targets.{target_of}
 use Rattle.headers.proofs.Lawfulness.{target_is, unlawful_odd, unlawful_zero, unlawful_large, lawful_rest}
 use Rattle.headers.proofs.targets.told.Goals as goal

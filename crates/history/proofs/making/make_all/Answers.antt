@@ -1,4 +1,4 @@
-use Rattle.std.proofs.Common.{length, take, take_all}
+use Rattle.std.proofs.Common.{take_all}
 use Rattle.runs.proofs.Laws.{law}
 use Rattle.history.proofs.Scripting.{first_call, next_call, take_item, script_run}
 use Rattle.history.proofs.making.make_all.Goals as goal
@@ -10,7 +10,7 @@ pub loop-call-preserved : goal.loop-call-preserved
 loop-call-preserved g c =
     next_call c.args.calls.now c.loop-call.call-index _ _
     (take_item c.args.calls.now c.loop-call.call-index c.call-item.result c.loop-call-test.true c.call-item.is)
-    c.in-ok-push.ensures.items c.loop-call.invariant c.in-ok-next.ensures
+    c.in_ok-push.ensures.items c.loop-call.invariant c.in_ok-next.ensures
 
 pub returns : goal.returns
 returns g c =

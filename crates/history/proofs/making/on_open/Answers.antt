@@ -9,5 +9,5 @@ returns-in-Add g c = rw c.in-Add.is (taken _ an_add c.add-answer.ensures)
 pub returns-in-Settle : goal.returns-in-Settle
 returns-in-Settle g c = rw c.in-Settle.is (taken _ a_settle c.settle.ensures)
 
-pub returns-in-default : goal.returns-in-default
-returns-in-default g c = not_taken (untaken_open g.J.Judge.meaning (content_of c.args.dossier.held) c.args.call.now c.in-default.not-Add c.in-default.not-Settle)
+pub returns-in_default : goal.returns-in_default
+returns-in_default g c = not_taken (untaken_open g.J.Judge.meaning (content_of c.args.dossier.held) c.args.call.now c.in_default.not-Add c.in_default.not-Settle)

@@ -6,18 +6,18 @@ use Rattle.history.proofs.making.on_settled.Goals as goal
 pub returns-in-Reopen : goal.returns-in-Reopen
 returns-in-Reopen g c = rw c.in-Reopen.is (taken _ a_reopen c.reopen.ensures)
 
-pub returns-in-ok-file : goal.returns-in-ok-file
-returns-in-ok-file g c = rw c.in-Write.is (one_write _ _ _ c.in-ok-file.ensures)
+pub returns-in_ok-file-in-Write : goal.returns-in_ok-file-in-Write
+returns-in_ok-file-in-Write g c = rw c.in-Write.is (one_write _ _ _ c.in_ok-file-in-Write.ensures)
 
-pub returns-in-ok-row : goal.returns-in-ok-row
-returns-in-ok-row g c = rw c.in-Row.is (taken _ a_row c.in-ok-row.ensures)
+pub returns-in_ok-row-in-Row : goal.returns-in_ok-row-in-Row
+returns-in_ok-row-in-Row g c = rw c.in-Row.is (taken _ a_row c.in_ok-row-in-Row.ensures)
 
-pub returns-in-ok-tally : goal.returns-in-ok-tally
-returns-in-ok-tally g c = rw c.in-Tally.is (taken _ a_tally c.in-ok-tally.ensures)
+pub returns-in_ok-tally-in-Tally : goal.returns-in_ok-tally-in-Tally
+returns-in_ok-tally-in-Tally g c = rw c.in-Tally.is (taken _ a_tally c.in_ok-tally-in-Tally.ensures)
 
-pub returns-in-ok-sheet : goal.returns-in-ok-sheet
-returns-in-ok-sheet g c = rw c.in-Sheet.is (one_sheet _ _ _ _ _ c.in-ok-sheet.ensures)
+pub returns-in_ok-sheet-in-Sheet : goal.returns-in_ok-sheet-in-Sheet
+returns-in_ok-sheet-in-Sheet g c = rw c.in-Sheet.is (one_sheet _ _ _ _ _ c.in_ok-sheet-in-Sheet.ensures)
 
-pub returns-in-default : goal.returns-in-default
-returns-in-default g c =
-    not_taken (untaken_settled g.J.Judge.meaning (content_of c.args.dossier.held) c.args.call.now c.in-default.not-Reopen c.in-default.not-Write c.in-default.not-Row c.in-default.not-Tally c.in-default.not-Sheet)
+pub returns-in_default : goal.returns-in_default
+returns-in_default g c =
+    not_taken (untaken_settled g.J.Judge.meaning (content_of c.args.dossier.held) c.args.call.now c.in_default.not-Reopen c.in_default.not-Write c.in_default.not-Row c.in_default.not-Tally c.in_default.not-Sheet)

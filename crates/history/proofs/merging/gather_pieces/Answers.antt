@@ -20,7 +20,7 @@ returns-in-Err c = record {
 
 pub loop-i-preserved : goal.loop-i-preserved
 loop-i-preserved c =
-    next_piece c.args.pieces.now c.loop-i.i _ c.loop-i-test.true (open_dossier c.loop-i.dossier) (open_dossier c.add.new.self) c.loop-i.invariant c.in-default.ensures
+    next_piece c.args.pieces.now c.loop-i.i _ c.loop-i-test.true (open_dossier c.loop-i.dossier) (open_dossier c.add.new.self) c.loop-i.invariant c.in_default.ensures
 
 pub returns : goal.returns
 returns c = all_pieces c.args.pieces.now c.loop-i.i (open_dossier c.loop-i.dossier) c.loop-i-test.false c.loop-i.invariant

@@ -1,4 +1,4 @@
-use Rattle.std.proofs.Common.{◌≡◌, refl}
+use Rattle.std.proofs.Common.{refl}
 use Rattle.runs.specs.Runs.{then}
 use Rattle.runs.specs.Contents.{settled}
 use Rattle.dossier.specs.Models.{content_of}
@@ -11,7 +11,7 @@ pub returns-in-Err : goal.returns-in-Err
 returns-in-Err g c = (
   record {
     content = content_of c.settle-dossier.result.held;
-    run = then c.in-ok-open.ensures c.settle-dossier.ensures;
+    run = then c.in_ok-open.ensures c.settle-dossier.ensures;
     refused = c.in-Err.ensures.0;
   },
   refl,
@@ -24,7 +24,7 @@ returns-in-Ok-write g c =
     let u = c.in-Ok.ensures.0 in (
       merges (files_of c.args.pieces.now) (g.J.Judge.meaning c.args.judge.now) c.args.out.now c.args.work.now s c.in-Ok-write.length c.in-Ok.tally
           c.write.new.out
-          (then {s = settled s} (then c.in-ok-open.ensures c.settle-dossier.ensures) (record { answer = u.answer; work = refl }, refl))
+          (then {s = settled s} (then c.in_ok-open.ensures c.settle-dossier.ensures) (record { answer = u.answer; work = refl }, refl))
           c.in-Ok-write.ensures,
       u.work,
     )
@@ -35,7 +35,7 @@ returns-in-Err-write g c =
     let w = c.in-Err-write.ensures.0 in (
       record {
         content = s;
-        run = then c.in-ok-open.ensures c.settle-dossier.ensures;
+        run = then c.in_ok-open.ensures c.settle-dossier.ensures;
         refused = w;
       },
       out_kept s c.args.out.now c.write.new.out c.in-Err-write.refusal w,

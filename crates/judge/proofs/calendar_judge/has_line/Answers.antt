@@ -1,4 +1,4 @@
-use Rattle.std.proofs.Common.{◌≡◌, ◌+◌, ◌-◌, ◌≤◌, [], take, drop, sym, ap, ◌∙◌, subst, arith}
+use Rattle.std.proofs.Common.{◌+◌, ◌-◌, take, drop, sym, ap, ◌∙◌, arith}
 use Rattle.judge.specs.Working.{found}
 use Rattle.judge.proofs.Lines.{found_all, at_found, at_end, at_none, at_last}
 use Rattle.judge.proofs.calendar_judge.has_line.Goals as goal

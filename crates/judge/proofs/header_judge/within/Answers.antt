@@ -1,4 +1,4 @@
-use Rattle.std.proofs.Common.{◌≡◌, ◌*◌, ◌≤◌, take, ap, ◌∙◌, arith}
+use Rattle.std.proofs.Common.{◌≡◌, ◌*◌, take, ap, ◌∙◌, arith}
 use Rattle.headers.specs.Following.{covered_by}
 use Rattle.headers.proofs.Longest.{covered_count}
 use Rattle.judge.specs.HeaderRules.{standing}

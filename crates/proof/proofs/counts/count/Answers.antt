@@ -1,12 +1,10 @@
-use Rattle.std.proofs.Common.{◌≡◌, ◌<◌, ◌≤◌, length, Some, None, sym, ap, ◌∙◌, arith, rules}
+use Rattle.std.proofs.Common.{◌≡◌, length, Some, sym, ap, ◌∙◌, arith}
 use Rattle.std.proofs.lemmas.Result.{err_from_is_err_and}
-use Rattle.format.specs.Outcome.{got, fault}
+use Rattle.format.specs.Outcome.{got}
 use Rattle.format.specs.Files.{start_at}
-use Rattle.format.specs.Walks.{Handed, handed, next_at, step}
+use Rattle.format.specs.Walks.{handed, next_at, step}
 use Rattle.format.proofs.Counting.{file_counts, not_started, stopped, finished, goes_on, handed_from}
-use Rattle.proof.specs.Answers.{outcome}
 use Rattle.proof.specs.Counted.{counted}
-use Rattle.proof.specs.Heads.{headed}
 use Rattle.proof.specs.Pieces.{piece}
 use Rattle.proof.specs.Places.{place_of, handed_by}
 use Rattle.proof.proofs.counts.count.Goals as goal

@@ -1,8 +1,8 @@
-use Rattle.std.proofs.Common.{◌≡◌, ◌+◌, ◌≤◌, true, length, take, drop, sym, ap, ◌∙◌, arith}
+use Rattle.std.proofs.Common.{◌≡◌, ◌+◌, ◌≤◌, length, take, drop, sym, ap, ◌∙◌, arith}
 use Rattle.std.proofs.lemmas.List.{length-take-le}
 use Rattle.replay.specs.Messages.{fits, replay}
 use Rattle.replay.specs.Paths.{ops}
-use Rattle.replay.proofs.Steps.{grown, made, link_at, fits_more, grown_more, replay_more, replay_end}
+use Rattle.replay.proofs.Steps.{grown, link_at, fits_more, grown_more, replay_more, replay_end}
 use Rattle.replay.proofs.paths.walked.Goals as goal
 
 pub apply-size-requires : goal.apply-size-requires

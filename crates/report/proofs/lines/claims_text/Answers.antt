@@ -5,4 +5,4 @@ use Rattle.report.proofs.lines.claims_text.Goals as goal
 pub returns : goal.returns
 unfolding claims_text
 returns c =
-    subst (λ (z : List ℕ). IfOk c.format.result (λ s. string_bytes s ≡ decimal c.args.n ++ (codes " " ++ z))) c.claim-word-word.ensures c.format.ensures.ok
+    subst (λ (z : List ℕ). IfOk c.format.result (λ s. string_bytes s ≡ decimal c.args.n ++ (codes " " ++ z))) c.claim_word-word.ensures c.format.ensures.ok

@@ -1,7 +1,6 @@
-use Rattle.std.proofs.Common.{◌≡◌, ℕ, ◌+◌, ◌<◌, ◌≤◌, List, map, length, vec_items, vec_len, string_bytes, sym, ap, ◌∙◌, add_assoc, arith, rules}
+use Rattle.std.proofs.Common.{◌≡◌, map, length, vec_items, vec_len, string_bytes, sym, ap, ◌∙◌, add_assoc, arith}
 use Rattle.std.proofs.lemmas.List.{length-map}
 use Rattle.report.specs.Options.{named_by, is_paired}
-use Rattle.report.specs.Requests.{next_place}
 use Rattle.report.proofs.Walks.{next_paired, next_single, next_last}
 use Rattle.report.proofs.requests.next_place.Goals as goal
 use Rattle.report.proofs.requests.next_place.Goals.{else-behind-len-via-then-behind-len+else-paired, else-behind-len-via-else-behind-len}
@@ -14,7 +13,7 @@ returns-then-paired c =
       bound = omega arith;
       more = omega arith;
       value = add_assoc c.args.at 1 1
-          ∙ sym (next_paired ws c.args.at (omega arith) (sym (ap (λ w. is_paired (named_by w)) c.word.ensures) ∙ sym (ap is_paired c.name-of.ensures) ∙ sym c.if-paired.ensures));
+          ∙ sym (next_paired ws c.args.at (omega arith) (sym (ap (λ w. is_paired (named_by w)) c.word.ensures) ∙ sym (ap is_paired c.name_of.ensures) ∙ sym c.if-paired.ensures));
     }
 
 pub returns : goal.returns
@@ -25,7 +24,7 @@ returns c =
       bound = omega arith;
       more = omega arith;
       value = elim c.else-behind-len.branch [
-        | else-behind-len-via-then-behind-len+else-paired w ↦ sym (next_single ws c.args.at (sym (ap (λ w. is_paired (named_by w)) w.word.ensures) ∙ sym (ap is_paired w.name-of.ensures) ∙ sym w.if-paired.ensures))
+        | else-behind-len-via-then-behind-len+else-paired w ↦ sym (next_single ws c.args.at (sym (ap (λ w. is_paired (named_by w)) w.word.ensures) ∙ sym (ap is_paired w.name_of.ensures) ∙ sym w.if-paired.ensures))
         | else-behind-len-via-else-behind-len w ↦ sym (next_last ws c.args.at (omega (arith, w.if-behind-len.false)))
       ];
     }

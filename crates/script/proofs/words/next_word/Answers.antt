@@ -21,6 +21,6 @@ loop-front-preserved c =
 
 pub returns : goal.returns
 returns c =
-    let p = split_parts 32 c.loop-front.left.now None c.in-default.ensures.cases (lit< tt) in
+    let p = split_parts 32 c.loop-front.left.now None c.in_default.ensures.cases (lit< tt) in
     let e = c.loop-front.invariant.1 in
     record { word = last_first _ p ∙ ap first_of e; rest = last_behind c.loop-front.left.now p ∙ ap behind_of e; bound = omega (arith, c.loop-front.invariant.2) }

@@ -1,4 +1,4 @@
-use Rattle.std.proofs.Common.{◌≡◌, ◌+◌, ◌-◌, ◌*◌, ◌≤◌, length, take, drop, sym, refl, ap, ◌∙◌, arith}
+use Rattle.std.proofs.Common.{◌≡◌, ◌+◌, ◌-◌, ◌*◌, ◌≤◌, length, take, drop, ap, ◌∙◌, arith}
 use Rattle.sha256.specs.Sha256.{K, extended, rounds}
 use Rattle.sha256.specs.Working.{window}
 use Rattle.sha256.proofs.Windows.{window_none, window_add}

@@ -1,5 +1,4 @@
 -- Each call moves the window of the call before it on by one word.
-use Rattle.std.proofs.Common.{refl}
 use Rattle.sha256.proofs.Windows.{window_none, window_more}
 use Rattle.sha256.proofs.schedule.next_window.Goals as goal
 

@@ -1,4 +1,3 @@
-use Rattle.std.proofs.Common.{[], ◌∷◌, get_or, ap}
 use Rattle.sha256.specs.Working.{moved}
 use Rattle.sha256.proofs.schedule.next_word.Goals as goal
 

@@ -1,4 +1,4 @@
-use Rattle.std.proofs.Common.{◌≡◌, ◌-◌, length, take, refl, ap, ◌∙◌, arith}
+use Rattle.std.proofs.Common.{◌≡◌, ◌-◌, length, ap, ◌∙◌, arith}
 use Rattle.format.specs.Operations.{op_of}
 use Rattle.replay.specs.Messages.{apply}
 use Rattle.replay.proofs.Fronts.{front_take}

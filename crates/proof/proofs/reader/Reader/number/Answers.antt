@@ -1,9 +1,7 @@
-use Rattle.std.proofs.Common.{◌≡◌, ℕ, suc, ◌+◌, ◌-◌, ◌*◌, ◌^◌, ◌<◌, ◌≤◌, sym, refl, ap, ◌∙◌, le_refl, arith, rules}
-use Rattle.std.proofs.lemmas.Bool.{cond-true, cond-false, lt-ltb, le-ltb}
-use Rattle.std.proofs.lemmas.Result.{err_from_is_err_and}
+use Rattle.std.proofs.Common.{◌-◌, sym, ◌∙◌, le_refl, arith, rules}
 use Rattle.proof.proofs.Weights.{weight_bound, weight_more, group_bound}
 use Rattle.format.proofs.NumberSteps.{number_none, number_more}
-use Rattle.format.specs.Numbers.{number_at, number_from}
+use Rattle.format.specs.Numbers.{number_at}
 use Rattle.proof.proofs.reader.Reader.number.Goals as goal
 
 pub returns-in_err-b : goal.returns-in_err-b
