@@ -19,6 +19,7 @@ use report::commands::{Command, parse};
 use run::run_command;
 use sheet::sheet_command;
 use show::show;
+use std::process::ExitCode;
 use words::{word, words};
 
 const VERSION: &str = "tiphvanh 0.1.0";
@@ -64,6 +65,10 @@ fn asked(rt: &HostRuntime) -> anyhow::Result<()> {
     }
 }
 
-fn main(rt: HostRuntime) -> anyhow::Result<()> {
-    asked(&rt)
+// What went wrong has been said by then.
+fn main(rt: HostRuntime) -> ExitCode {
+    match asked(&rt) {
+        Ok(()) => ExitCode::SUCCESS,
+        Err(_) => ExitCode::FAILURE,
+    }
 }
