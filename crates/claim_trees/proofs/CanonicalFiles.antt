@@ -1,6 +1,6 @@
 -- What is written is the canonical file, and there is no other.
 use Rattle.std.proofs.Common.{◌≡◌, ℕ, ◌<◌, true, false, ◌&&◌, List, [], ◌∷◌, ◌++◌, map, length, Less, sym, refl, ap, ◌∙◌, subst, inl, inr, true≢false}
-use Rattle.std.specs.List.{AllByRecursion as All}
+use Rattle.std.specs.List.{AllByRecursion}
 use Rattle.std.specs.Ordering.{is_lt}
 use Rattle.std.proofs.lemmas.Bool.{and_parts, and_from}
 use Rattle.std.proofs.lemmas.List.{append-nil, append_assoc}
@@ -24,11 +24,11 @@ use Rattle.claim_trees.proofs.Ascending.{written_rising}
 use Rattle.claim_trees.proofs.Gathering.{alike_back, alike_trans, filled_from, gathered_holds, holds_one, gathered_alike}
 use Rattle.claim_trees.proofs.WrittenFiles.{reread}
 
-all_from : {A : Type 0} (P : A → Type 0) (xs : List A) → ((x : A) → In x xs → P x) → All P xs
+all_from : {A : Type 0} (P : A → Type 0) (xs : List A) → ((x : A) → In x xs → P x) → AllByRecursion P xs
 all_from P [] h = tt
 all_from P (x ∷ xs) h = (h x (inl refl), all_from P xs (λ y i. h y (inr i)))
 
-in_all : {A : Type 0} (P : A → Type 0) (xs : List A) → All P xs → (x : A) → In x xs → P x
+in_all : {A : Type 0} (P : A → Type 0) (xs : List A) → AllByRecursion P xs → (x : A) → In x xs → P x
 in_all P [] h x i = absurd i
 in_all P (y ∷ ys) h x (inl e) = subst P (sym e) h.0
 in_all P (y ∷ ys) h x (inr i) = in_all P ys h.1 x i
@@ -39,10 +39,10 @@ later_by : (o : Op) (t : Tree) (os : List Op) (a : Att) → before o t ≡ true 
 later_by o t [] a h s i = absurd ((listed [] a [] t).0 i)
 later_by o t (p ∷ ps) a h s i = is_less _ (beyond o t h s p (Claims ps a) ((listed (p ∷ ps) a [] t).0 i))
 
-all_later : (o : Op) (t : Tree) → before o t ≡ true → sorted t ≡ true → All (λ d. Later o d.path) (through t)
+all_later : (o : Op) (t : Tree) → before o t ≡ true → sorted t ≡ true → AllByRecursion (λ d. Later o d.path) (through t)
 all_later o t h s = all_from (λ d. Later o d.path) (through t) (λ d i. later_by o t d.path d.attestation h s i)
 
-all_after : (a : Att) (m : List Att) (t : Tree) → ascends (a ∷ m) ≡ true → sorted t ≡ true → All (λ c. claim_order (here a) c ≡ Less) (claims m t)
+all_after : (a : Att) (m : List Att) (t : Tree) → ascends (a ∷ m) ≡ true → sorted t ≡ true → AllByRecursion (λ c. claim_order (here a) c ≡ Less) (claims m t)
 all_after a m t h s =
     let r = and_parts (ahead claim_order (here a) (claims m t)) (rising claim_order (claims m t)) (written_rising (a ∷ m) t h s) in
     all_from (λ c. claim_order (here a) c ≡ Less) (claims m t) (λ c i. is_less _ (after claims_ordered (here a) (claims m t) r.0 r.1 c i))
@@ -103,14 +103,14 @@ record Grown (cs : List Claim) (bs : List ℕ) : Type 0 where
   says : claims marks branches ≡ cs
   spells : node_bytes marks branches ≡ bs
 
-before_from : (o : Op) (t : Tree) → sorted t ≡ true → All (λ d. Later o d.path) (through t) → before o t ≡ true
+before_from : (o : Op) (t : Tree) → sorted t ≡ true → AllByRecursion (λ d. Later o d.path) (through t) → before o t ≡ true
 before_from o end s h = refl
 before_from o (more p n c r) s h =
     let w = parts p n c r s in
     let k = witness n c w.some w.below in
     ap is_lt (in_all (λ d. Later o d.path) (through (more p n c r)) h (claim (p ∷ k.0) k.1) ((listed (p ∷ k.0) k.1 [] (more p n c r)).1 (inl (refl, k.2))))
 
-ahead_from : (a : Att) (m : List Att) (t : Tree) → All (λ c. claim_order (here a) c ≡ Less) (claims m t) → ahead att_order a m ≡ true
+ahead_from : (a : Att) (m : List Att) (t : Tree) → AllByRecursion (λ c. claim_order (here a) c ≡ Less) (claims m t) → ahead att_order a m ≡ true
 ahead_from a [] t h = refl
 ahead_from a (b ∷ m) t h = ap is_lt h.0
 
@@ -141,7 +141,7 @@ mutual
       record {
         branches = more o g.marks g.branches r.branches;
         sorts = whole o g.marks g.branches r.branches (record {
-          first = before_from o r.branches r.sorts (subst (All (λ d. Later o d.path)) (sym r.says) later);
+          first = before_from o r.branches r.sorts (subst (AllByRecursion (λ d. Later o d.path)) (sym r.says) later);
           marks = g.ascend;
           some = g.some;
           below = g.sorts;
@@ -163,7 +163,7 @@ mutual
       record {
         marks = a ∷ g.marks;
         branches = g.branches;
-        ascend = and_from _ _ (ahead_from a g.marks g.branches (subst (All (λ c. claim_order (here a) c ≡ Less)) (sym g.says) after)) g.ascend;
+        ascend = and_from _ _ (ahead_from a g.marks g.branches (subst (AllByRecursion (λ c. claim_order (here a) c ≡ Less)) (sym g.says) after)) g.ascend;
         sorts = g.sorts;
         some = refl;
         says = ap (λ z. here a ∷ z) g.says;

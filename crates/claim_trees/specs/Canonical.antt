@@ -1,7 +1,7 @@
 -- The canonical file of a digest and a set of claims, in terms of its bytes alone.
 use Rattle.std.specs.Prelude.{◌≡◌, ℕ, List, [], ◌∷◌, ◌++◌, map}
 use Rattle.std.specs.declared.cmp.Ordering.TheVariants.{Less}
-use Rattle.std.specs.List.{AllByRecursion as All}
+use Rattle.std.specs.List.{AllByRecursion}
 use Rattle.format.specs.Operations.{Op}
 use Rattle.format.specs.Attestations.{Att}
 use Rattle.format.specs.Nodes.{Claim, under}
@@ -19,7 +19,7 @@ mutual
   pub data Operations : List Claim → List ℕ → Type 0 where
     last_operation : (o : Op) {cs : List Claim} {bs : List ℕ} → Items cs bs → Operations (map (under o) cs) (op_bytes o ++ bs)
     operation : (o : Op) {cs ds : List Claim} {bs es : List ℕ}
-        → Items cs bs → All (λ d. Later o d.path) ds → Operations ds es
+        → Items cs bs → AllByRecursion (λ d. Later o d.path) ds → Operations ds es
         → Operations (map (under o) cs ++ ds) (0xff ∷ ((op_bytes o ++ bs) ++ es))
 
   -- a node: the attestations first, ascending, each once; then the operations
@@ -27,7 +27,7 @@ mutual
     operations : {cs : List Claim} {bs : List ℕ} → Operations cs bs → Items cs bs
     last_attestation : (a : Att) → Items (here a ∷ []) (att_bytes a)
     attestation : (a : Att) {cs : List Claim} {bs : List ℕ}
-        → All (λ c. claim_order (here a) c ≡ Less) cs → Items cs bs
+        → AllByRecursion (λ c. claim_order (here a) c ≡ Less) cs → Items cs bs
         → Items (here a ∷ cs) (0xff ∷ (att_bytes a ++ bs))
 
 -- bytes that say exactly these claims of the digest, in canonical form

@@ -1,6 +1,6 @@
 -- The laws of sets of claims, in the words of the subject.
 use Rattle.std.specs.Prelude.{◌≡◌, ℕ, ◌+◌, ◌^◌, ◌<◌, ◌≤◌, true, ◌⊎◌, List, ◌++◌, length, drop}
-use Rattle.std.specs.List.{AllByRecursion as All}
+use Rattle.std.specs.List.{AllByRecursion}
 use Rattle.format.specs.Outcome.{got}
 use Rattle.format.specs.Numbers.{number_at}
 use Rattle.format.specs.Nodes.{Claim}
@@ -47,7 +47,7 @@ pub record UniqueLaw : Type 0 where
 
 -- bytes
 abbrev pub Small : List ℕ → Type 0
-Small bs = All (λ b. b < 256) bs
+Small bs = AllByRecursion (λ b. b < 256) bs
 
 pub record NumberLaw : Type 0 where
   -- a number in shortest form is read back, wherever it stands

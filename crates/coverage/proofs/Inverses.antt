@@ -1,7 +1,7 @@
 -- Reading hexadecimal text is the inverse of writing it.
 use Rattle.std.proofs.Common.{◌≡◌, ℕ, ◌+◌, ◌-◌, ◌*◌, ◌/◌, ◌%◌, ◌^◌, ◌<◌, true, ◌&&◌, eqb, List, [], ◌∷◌, length, Some, None, refl, ap, ◌∙◌, subst, arith}
 use Rattle.std.specs.Char.{digit_char}
-use Rattle.std.specs.List.{AllByRecursion as All}
+use Rattle.std.specs.List.{AllByRecursion}
 use Rattle.std.proofs.lemmas.Bool.{and_parts, and_from, eqb-true, eq-eqb, cond_both, both_ways}
 use Rattle.std.proofs.lemmas.Bool.Decides.{nat_tests}
 use Rattle.account.specs.Words.{hex_of}
@@ -40,7 +40,7 @@ hex_of_unhex (c ∷ d ∷ text) n e h =
     ∙ ap (λ x. c ∷ x ∷ hex_of (unhex text)) (char_of_value d q.0)
     ∙ ap (λ t. c ∷ d ∷ t) (hex_of_unhex text (n - 1) (omega arith) q.1)
 
-pub unhex_bytes : (text : List ℕ) → All (λ b. b < 256) (unhex text)
+pub unhex_bytes : (text : List ℕ) → AllByRecursion (λ b. b < 256) (unhex text)
 unfolding unhex
 unhex_bytes [] = tt
 unhex_bytes (c ∷ []) = tt
@@ -54,7 +54,7 @@ unfolding hex_of
 hex_length [] = refl
 hex_length (b ∷ bs) = let h : length (hex_of bs) ≡ 2 * length bs = hex_length bs in omega arith
 
-pub hex_digits_lem : (bs : List ℕ) → All (λ b. b < 256) bs → hex_digits (hex_of bs) ≡ true
+pub hex_digits_lem : (bs : List ℕ) → AllByRecursion (λ b. b < 256) bs → hex_digits (hex_of bs) ≡ true
 unfolding hex_digits hex_of
 hex_digits_lem [] a = refl
 hex_digits_lem (b ∷ bs) a =
@@ -63,7 +63,7 @@ hex_digits_lem (b ∷ bs) a =
     (and_from (hex_digit (digit_char (b % 16))) (hex_digits (hex_of bs)) (digit_of_char (b % 16) (omega arith)) (hex_digits_lem bs a.1))
 
 -- bytes are written in digits, two for each
-pub hex_written : (bs text : List ℕ) → All (λ b. b < 256) bs → hex_of bs ≡ text → written (2 * length bs) text ≡ true
+pub hex_written : (bs text : List ℕ) → AllByRecursion (λ b. b < 256) bs → hex_of bs ≡ text → written (2 * length bs) text ≡ true
 hex_written bs text a e =
     subst (λ t. written (2 * length bs) t ≡ true) e
     (and_from (eqb (length (hex_of bs)) (2 * length bs)) (hex_digits (hex_of bs)) (eq-eqb _ _ (hex_length bs)) (hex_digits_lem bs a))
@@ -93,7 +93,7 @@ four_of a b c d la lb lc ld =
           ∙ ap (λ x. a ∷ b ∷ c ∷ x ∷ []) ed,
     )
 
-four_of_big : (bs : List ℕ) → length bs ≡ 4 → All (λ b. b < 256) bs → (big bs < 2 ^ 32) × (four (big bs) ≡ bs)
+four_of_big : (bs : List ℕ) → length bs ≡ 4 → AllByRecursion (λ b. b < 256) bs → (big bs < 2 ^ 32) × (four (big bs) ≡ bs)
 four_of_big [] e p = absurd (omega arith)
 four_of_big (a ∷ []) e p = absurd (omega arith)
 four_of_big (a ∷ b ∷ []) e p = absurd (omega arith)
@@ -101,7 +101,7 @@ four_of_big (a ∷ b ∷ c ∷ []) e p = absurd (omega arith)
 four_of_big (a ∷ b ∷ c ∷ d ∷ []) e p = four_of a b c d p.0 p.1.0 p.1.1.0 p.1.1.1.0
 four_of_big (a ∷ b ∷ c ∷ d ∷ x ∷ rest) e p = absurd (omega arith)
 
-four_bytes : (n : ℕ) → n < 2 ^ 32 → All (λ b. b < 256) (four n)
+four_bytes : (n : ℕ) → n < 2 ^ 32 → AllByRecursion (λ b. b < 256) (four n)
 four_bytes n l = (omega arith, (omega arith, (omega arith, (omega arith, tt))))
 
 pub bits_invert_hex : BitsInvertHex

@@ -1,13 +1,13 @@
 -- Reading hexadecimal text is the inverse of writing it.
 use Rattle.std.specs.Prelude.{◌≡◌, ℕ, ◌/◌, ◌%◌, ◌^◌, ◌<◌, List, [], ◌∷◌, length, Some, None, Option, ◌≢◌}
-use Rattle.std.specs.List.{AllByRecursion as All}
+use Rattle.std.specs.List.{AllByRecursion}
 use Rattle.account.specs.Words.{hex_of}
 use Rattle.coverage.specs.Reading.{hash_read, bits_read}
 
 -- n bytes that are written as the text
 pub record Hex (n : ℕ) (text bs : List ℕ) : Type 0 where
   pub long : length bs ≡ n
-  pub bytes : All (λ b. b < 256) bs
+  pub bytes : AllByRecursion (λ b. b < 256) bs
   pub reads : hex_of bs ≡ text
 
 -- such bytes, or nothing where there are none

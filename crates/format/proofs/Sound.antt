@@ -1,6 +1,6 @@
 -- What is read is spelt by the grammar.
 use Rattle.std.proofs.Common.{◌≡◌, ℕ, zero, suc, ◌+◌, ◌-◌, ◌*◌, ◌^◌, ◌<◌, ◌≤◌, Bool, true, false, cond, ◌&&◌, eqb, ltb, leb, List, [], ◌∷◌, ◌++◌, length, get_or, take, drop, Some, None, Option, sym, refl, ap, ◌∙◌, subst, append_assoc, suc-le-suc, mul_assoc, mul_comm, add-mul, arith}
-use Rattle.std.specs.List.{AllByRecursion as All}
+use Rattle.std.specs.List.{AllByRecursion}
 use Rattle.std.proofs.lemmas.Bool.{ltb-true, ltb-false, leb-true, leb-false, eqb-true, eq-eqb, and_parts, and_from, both_ways, false≢true}
 use Rattle.std.proofs.lemmas.List.{drop_more, take-append-drop, drop-drop, length-take-le, length-take, length-drop, length-append, drop-take, drop_all, append-nil}
 use Rattle.std.proofs.ByRecursion.{Decides-by_and}
@@ -280,11 +280,11 @@ sound_address payload file first end p =
     })
 
 -- the test on an address, byte by byte
-pub address_each : (a : List ℕ) → address_bytes a ≡ true → All (λ b. address_byte b ≡ true) a
+pub address_each : (a : List ℕ) → address_bytes a ≡ true → AllByRecursion (λ b. address_byte b ≡ true) a
 unfolding address_bytes
 address_each a e = (Decides-by_and address_byte (λ b. address_byte b ≡ true) address_bytes (λ b. ((λ q. q), (λ q. q))) refl (λ _ _. refl) a).0 e
 
-pub each_address : (a : List ℕ) → All (λ b. address_byte b ≡ true) a → address_bytes a ≡ true
+pub each_address : (a : List ℕ) → AllByRecursion (λ b. address_byte b ≡ true) a → address_bytes a ≡ true
 unfolding address_bytes
 each_address a e = (Decides-by_and address_byte (λ b. address_byte b ≡ true) address_bytes (λ b. ((λ q. q), (λ q. q))) refl (λ _ _. refl) a).1 e
 

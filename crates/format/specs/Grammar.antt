@@ -1,6 +1,6 @@
 -- The grammar of a proof file: which bytes say which claims, within the limits.
 use Rattle.std.specs.Prelude.{◌≡◌, ℕ, ◌+◌, ◌-◌, ◌*◌, ◌^◌, ◌<◌, ◌≤◌, true, List, [], ◌∷◌, ◌++◌, map, length, Some, ◌≢◌}
-use Rattle.std.specs.List.{AllByRecursion as All}
+use Rattle.std.specs.List.{AllByRecursion}
 use Rattle.format.specs.declared.Kind.{Kind}
 use Rattle.format.specs.declared.Kind.TheVariants.{Sha256, Append, Prepend, Reverse, Hexlify}
 use Rattle.format.specs.Operations.{op_of, kind_of, result_size, message_limit, path_limit}
@@ -34,7 +34,7 @@ pub data Argument : Kind → List ℕ → List ℕ → Type 0 where
 -- what a payload under a tag says: a height, an address, or only itself
 pub data Content : List ℕ → List ℕ → Att → Type 0 where
   height : {payload : List ℕ} {h : ℕ} → Number payload h → Content bitcoin_tag payload (bitcoin h)
-  address : {payload a : List ℕ} → Block 0 address_limit payload a → All (λ b. address_byte b ≡ true) a → Content pending_tag payload (pending a)
+  address : {payload a : List ℕ} → Block 0 address_limit payload a → AllByRecursion (λ b. address_byte b ≡ true) a → Content pending_tag payload (pending a)
   other : {tag payload : List ℕ} → (tag ≢ bitcoin_tag) → (tag ≢ pending_tag) → Content tag payload (unknown tag payload)
 
 mutual
