@@ -1,8 +1,8 @@
 // The program: it reads files and prints what the library says of them.
 #![tactic(auto)]
 
-mod coverage;
 mod files;
+mod headers_file;
 mod judges;
 mod merge;
 mod outputs;
@@ -12,8 +12,8 @@ mod sheet;
 mod show;
 mod words;
 
-use crate::coverage::headers;
 use files::fail;
+use headers_file::headers;
 use merge::merge_command;
 use report::commands::{Command, parse};
 use run::run_command;
