@@ -1,6 +1,5 @@
 -- The lines of an account.
-use Rattle.std.specs.Prelude.{ℕ, ◌*◌, cond, List, ◌++◌, reverse, length, replicate, codes, decimal, ◌==◌}
-use Rattle.std.proofs.Math.Utf8.{encodes}
+use Rattle.std.specs.Prelude.{ℕ, ◌*◌, cond, List, ◌++◌, reverse, length, replicate, codes, decimal, ◌==◌, encode_utf8_all}
 use Rattle.format.specs.declared.Kind.{Kind}
 use Rattle.format.specs.declared.Kind.TheVariants.{Sha256, Append, Prepend, Reverse, Hexlify}
 use Rattle.format.specs.Attestations.{Att, pending, bitcoin, unknown}
@@ -33,7 +32,7 @@ operation_line depth kind argument offset first =
 
 -- a calendar's address, a block's height, or a tag and what stands under it
 abbrev pub content_text : Att → List ℕ
-content_text (pending address) = codes "pending [" ++ (encodes address ++ codes "]")
+content_text (pending address) = codes "pending [" ++ (encode_utf8_all address ++ codes "]")
 content_text (bitcoin height) = codes "bitcoin " ++ decimal height
 content_text (unknown tag payload) = codes "unknown " ++ (hex_of tag ++ (codes " [" ++ (hex_of payload ++ codes "]")))
 

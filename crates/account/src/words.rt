@@ -1,6 +1,5 @@
 // Bytes as text.
-ghost use Rattle.std.specs.Prelude.{◌≡◌, ◌+◌, ◌*◌, ◌<◌, ◌++◌, length, replicate, IfOk, string_bytes, codes, decimal, OnOk};
-ghost use Rattle.std.proofs.Math.Utf8.{encodes};
+ghost use Rattle.std.specs.Prelude.{◌≡◌, ◌+◌, ◌*◌, ◌<◌, ◌++◌, length, replicate, IfOk, string_bytes, codes, decimal, OnOk, encode_utf8_all};
 ghost use Rattle.std.specs.Char.{digit_char};
 ghost use Rattle.account.specs.Words.{hex_of};
 
@@ -30,7 +29,7 @@ fn push_hex(out: &mut String, bytes: &[u8]) -> Result<(), AllocError>
 }
 
 fn push_text(out: &mut String, bytes: &[u8]) -> Result<(), AllocError>
-    ensures { OnOk result (string_bytes out.new ≡ string_bytes out.old ++ encodes bytes.now) }
+    ensures { OnOk result (string_bytes out.new ≡ string_bytes out.old ++ encode_utf8_all bytes.now) }
 {
     for b in bytes {
         out.push(*b as char)?;
@@ -58,7 +57,7 @@ pub fn hex(heap: Global, bytes: &[u8]) -> Result<String, AllocError>
 
 // Each byte as the character of that number.
 pub fn text(heap: Global, bytes: &[u8]) -> Result<String, AllocError>
-    ensures { IfOk result (λ s. string_bytes s ≡ encodes bytes.now) }
+    ensures { IfOk result (λ s. string_bytes s ≡ encode_utf8_all bytes.now) }
 {
     let mut out = String::new(heap);
     push_text(&mut out, bytes)?;

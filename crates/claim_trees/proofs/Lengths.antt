@@ -113,4 +113,4 @@ file_length_lem digest m t =
     omega arith
 
 pub onto_law : OntoLaw
-onto_law = record { node = node_onto_lem; node_length_lem = node_length_lem; file = file_onto_lem; file_length_lem = file_length_lem; payload_length_lem = payload_length_lem }
+onto_law = record { node = node_onto_lem; node_size = node_length_lem; file = file_onto_lem; file_size = file_length_lem; payload_size = payload_length_lem }

@@ -87,7 +87,7 @@ file_onto acc digest marks branches = node_onto ((((acc ++ mark) ++ (0x01 ∷ []
 
 pub record OntoLaw : Type 0 where
   pub node : (acc : List ℕ) (marks : List Att) (t : Tree) → node_onto acc marks t ≡ acc ++ node_bytes marks t
-  pub node_length_lem : (marks : List Att) (t : Tree) → node_length marks t ≡ length (node_bytes marks t)
+  pub node_size : (marks : List Att) (t : Tree) → node_length marks t ≡ length (node_bytes marks t)
   pub file : (digest : List ℕ) (marks : List Att) (t : Tree) → file_onto [] digest marks t ≡ file_bytes digest marks t
-  pub file_length_lem : (digest : List ℕ) (marks : List Att) (t : Tree) → file_length digest marks t ≡ length (file_bytes digest marks t)
-  pub payload_length_lem : (a : Att) → payload_length a ≡ length (payload_of a)
+  pub file_size : (digest : List ℕ) (marks : List Att) (t : Tree) → file_length digest marks t ≡ length (file_bytes digest marks t)
+  pub payload_size : (a : Att) → payload_length a ≡ length (payload_of a)

@@ -1,6 +1,5 @@
 -- The lines of a coverage.
-use Rattle.std.specs.Prelude.{ℕ, Bool, true, false, cond, List, ◌++◌, codes, decimal}
-use Rattle.std.proofs.Math.Utf8.{encodes}
+use Rattle.std.specs.Prelude.{ℕ, Bool, true, false, cond, List, ◌++◌, codes, decimal, encode_utf8_all}
 use Rattle.headers.specs.declared.ending.Ending.{Ending}
 use Rattle.headers.specs.declared.ending.Ending.TheVariants.{Ceiling, Complete, Count, Height, Cut, Link, Bits, Target, Work}
 use Rattle.dates.specs.Utc.{utc_of}
@@ -15,7 +14,7 @@ heights_line s = codes "heights " ++ (decimal s.from ++ (codes " to " ++ decimal
 
 -- 2009-01-03 18:15:05 UTC
 unfoldable pub date_text : ℕ → List ℕ
-date_text time = encodes (text_of (utc_of time))
+date_text time = encode_utf8_all (text_of (utc_of time))
 
 abbrev pub in_brackets : ℕ → List ℕ
 in_brackets time = codes "(" ++ (date_text time ++ codes ")")

@@ -5,7 +5,7 @@ use Rattle.headers.specs.declared.ending.Ending.TheVariants.{Ceiling}
 use Rattle.headers.specs.Targets.{target_of, lawful}
 use Rattle.headers.specs.Headers.{header_at, hash_of, hash_before}
 use Rattle.headers.specs.Steps.{count_limit}
-use Rattle.headers.specs.Following.{is_going_on, passes, covers, run, walked, covered_by}
+use Rattle.headers.specs.Following.{continues, passes, covers, run, walked, covered_by}
 use Rattle.headers.specs.Runs.{MoreBytesExtendTheRun}
 use Rattle.headers.proofs.Firsts.{first_later}
 use Rattle.headers.proofs.Passing.{Passes, room_of, passes_of}
@@ -35,7 +35,7 @@ passes_more base previous most bytes more k e =
     let p = passes_of base most (hash_before previous bytes k) bytes k h.0 h.1 in
     let w = r.whole in
     let n = length-append bytes more in
-    ap is_going_on (step_ok base most (hash_before previous (bytes ++ more) k) (bytes ++ more) k h.0
+    ap continues (step_ok base most (hash_before previous (bytes ++ more) k) (bytes ++ more) k h.0
     (record { count = r.count; height = r.height; whole = omega arith })
     (passes_same most _ _ h.0 _ _ (before_same previous bytes more k (omega arith)) (header_same bytes more k w) p))
 

@@ -6,7 +6,7 @@ use Rattle.headers.specs.declared.ending.Ending.TheVariants.{Ceiling}
 use Rattle.headers.specs.Targets.{target_of, lawful}
 use Rattle.headers.specs.Headers.{header_at, hash_of, hash_before}
 use Rattle.headers.specs.Steps.{count_limit, height_limit, end_at, tested, step_or, step_at}
-use Rattle.headers.specs.Following.{first_failing, is_going_on, place_in, passes, covers, run, walked, covered_by}
+use Rattle.headers.specs.Following.{first_failing, continues, place_in, passes, covers, run, walked, covered_by}
 use Rattle.headers.specs.Runs.{Good, IsLongest, CoversTheLongestRun}
 use Rattle.headers.proofs.Lawfulness.{lawful_tells, lawful_from}
 use Rattle.headers.proofs.Firsts.{first_is}
@@ -14,7 +14,7 @@ use Rattle.headers.proofs.Sames.{same_tells, same_from}
 use Rattle.headers.proofs.Passing.{Room, Passes, room_of, passes_of}
 
 -- a place where the run goes on has a header that passes
-going : (r : Result (List ℕ) Ending) → is_going_on r ≡ true → (h : List ℕ) × (r ≡ Ok h)
+going : (r : Result (List ℕ) Ending) → continues r ≡ true → (h : List ℕ) × (r ≡ Ok h)
 going (Ok h) e = (h, refl)
 going (Err x) e = absurd (false≢true e)
 
@@ -68,7 +68,7 @@ good_passes : (base : ℕ) (previous : List ℕ) (ceiling : ℕ) (bytes : List �
     → passes base previous (target_of ceiling) bytes k ≡ true
 unfolding passes
 good_passes base previous ceiling bytes k l m g =
-    ap is_going_on (step_ok base (target_of ceiling) (hash_before previous bytes k) bytes k (hash_of (header_at bytes k))
+    ap continues (step_ok base (target_of ceiling) (hash_before previous bytes k) bytes k (hash_of (header_at bytes k))
     (record { count = l; height = m; whole = g.whole })
     (record {
       linked = same_from _ _ g.linked;

@@ -6,7 +6,7 @@ use Rattle.headers.specs.declared.ending.Ending.{Ending}
 use Rattle.headers.specs.Targets.{little, target_of, lawful}
 use Rattle.headers.specs.Headers.{header_at, previous_of, bits_of, hash_of, hash_before}
 use Rattle.headers.specs.Steps.{count_limit, height_limit, end_at, tested, step_or, step_at}
-use Rattle.headers.specs.Following.{first_failing, is_going_on, reason, place_in, passes, covers, run, walked}
+use Rattle.headers.specs.Following.{first_failing, continues, reason, place_in, passes, covers, run, walked}
 use Rattle.headers.proofs.Firsts.{first_stops, first_goes}
 
 -- a place with room for a header
@@ -82,7 +82,7 @@ pub covers_goes : (base : ℕ) (previous : List ℕ) (most : ℕ) (bytes : List 
     → first_failing (passes base previous most bytes) k (65536 - k) ≡ covers base previous most bytes
     → first_failing (passes base previous most bytes) (k + 1) (65536 - (k + 1)) ≡ covers base previous most bytes
 unfolding passes
-covers_goes base previous most bytes k hash e l h = sym (first_goes (passes base previous most bytes) k 65536 l (ap is_going_on e)) ∙ h
+covers_goes base previous most bytes k hash e l h = sym (first_goes (passes base previous most bytes) k 65536 l (ap continues e)) ∙ h
 
 pub covers_stops : (base : ℕ) (previous : List ℕ) (most : ℕ) (bytes : List ℕ) (k : ℕ) (ending : Ending)
     → place_in base previous most bytes k ≡ Err ending
@@ -90,5 +90,5 @@ pub covers_stops : (base : ℕ) (previous : List ℕ) (most : ℕ) (bytes : List
     → run k ending ≡ walked base previous most bytes
 unfolding passes walked
 covers_stops base previous most bytes k ending e h =
-    let s : k ≡ covers base previous most bytes = sym (first_stops (passes base previous most bytes) k (65536 - k) (ap is_going_on e)) ∙ h in
+    let s : k ≡ covers base previous most bytes = sym (first_stops (passes base previous most bytes) k (65536 - k) (ap continues e)) ∙ h in
     ap (run k) (sym (ap reason e)) ∙ ap (λ n. run n (reason (place_in base previous most bytes n))) s

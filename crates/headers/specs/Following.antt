@@ -12,9 +12,9 @@ unfoldable pub first_failing : (ℕ → Bool) → ℕ → ℕ → ℕ
 first_failing passes at zero = at
 first_failing passes at (suc n) = cond (passes at) (first_failing passes (at + 1) n) at
 
-abbrev pub is_going_on : Result (List ℕ) Ending → Bool
-is_going_on (Ok hash) = true
-is_going_on (Err e) = false
+abbrev pub continues : Result (List ℕ) Ending → Bool
+continues (Ok hash) = true
+continues (Err e) = false
 
 -- a run cannot go on past the greatest count, so the first of these never stands
 abbrev pub reason : Result (List ℕ) Ending → Ending
@@ -26,7 +26,7 @@ abbrev pub place_in : ℕ → List ℕ → ℕ → List ℕ → ℕ → Result (
 place_in base previous most bytes k = step_at base most (hash_before previous bytes k) bytes k
 
 unfoldable pub passes : ℕ → List ℕ → ℕ → List ℕ → ℕ → Bool
-passes base previous most bytes k = is_going_on (place_in base previous most bytes k)
+passes base previous most bytes k = continues (place_in base previous most bytes k)
 
 -- how many headers the run has
 unfoldable pub covers : ℕ → List ℕ → ℕ → List ℕ → ℕ

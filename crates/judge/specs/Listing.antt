@@ -27,7 +27,7 @@ listed text address = not (empty address) && some_line (lines text) address
 
 -- the same, as a relation
 pub record Listed (text address : List ℕ) : Type 0 where
-  pub some : address ≡ [] → ⊥
+  pub some : address ≢ []
   pub line : (k : ℕ) × (k < length (lines text)) × (slice_index_or (lines text) k [] ≡ address)
 
 abbrev pub ListedMeansALine : Type 0

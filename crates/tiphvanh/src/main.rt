@@ -65,7 +65,7 @@ fn asked(rt: &HostRuntime) -> anyhow::Result<()> {
     }
 }
 
-// What went wrong has been said by then.
+// Status 1 where something went wrong; of a file or a word it has been said what.
 fn main(rt: HostRuntime) -> ExitCode {
     match asked(&rt) {
         Ok(()) => ExitCode::SUCCESS,
