@@ -7,7 +7,8 @@ ghost use Rattle.dossier.specs.Models.{content_of};
 
 use crate::held::Held;
 
-// A dossier that takes files: sorted branches without repeats, each reached once from the top, lawful, within the limits.
+// A dossier that takes files. Its tree is lawful and within the limits: in order, nothing in it twice, every claim one that a
+// file can hold.
 #[derive(Drop)]
 pub struct Open {
     held: Held,
