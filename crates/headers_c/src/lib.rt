@@ -1,7 +1,7 @@
 // Runs of headers for callers in C: used to measure what a run costs beside its bare hashes.
 #![tactic(auto)]
 
-ghost use Rattle.std.specs.Prelude.{eqb, cond, length, replicate, ◌≡◌};
+ghost use Rattle.std.specs.Prelude.{◌≡◌, ◌==◌, cond, length, replicate};
 ghost use Rattle.headers.specs.Following.{run_of};
 ghost use Rattle.sha256.specs.Sha256.{sha256 as digest_of};
 
@@ -21,7 +21,7 @@ pub extern "C" fn headers_covered(ceiling: u32, bytes: &[u8]) -> usize
 // answers false.
 #[unsafe(no_mangle)]
 pub extern "C" fn hashed_twice(message: &[u8], out: &mut [u8]) -> bool
-    ensures answer { result ≡ eqb (length out.old) 32 }
+    ensures answer { result ≡ (length out.old == 32) }
     ensures written { out.new ≡ cond result (digest_of (digest_of message.now)) out.old }
 {
     if out.len() != 32 {
