@@ -24,11 +24,10 @@ abbrev pub part : ℕ → ℕ → List ℕ
 part size first = codes " (" ++ (decimal size ++ (codes " at " ++ (decimal first ++ codes ")")))
 
 -- an argument is shown where there is one
-abbrev pub operation_line : ℕ → Kind → List ℕ → ℕ → ℕ → List ℕ
-operation_line depth kind argument offset first =
-    cond (length argument == 0)
-    (indent depth ++ (decimal offset ++ (codes " " ++ kind_word kind)))
-    (indent depth ++ (decimal offset ++ (codes " " ++ (kind_word kind ++ (codes " [" ++ (hex_of argument ++ (codes "]" ++ part (length argument) first)))))))
+abbrev pub operation_text : Kind → List ℕ → ℕ → List ℕ
+operation_text kind argument first =
+    cond (length argument == 0) (kind_word kind)
+    (kind_word kind ++ (codes " [" ++ (hex_of argument ++ (codes "]" ++ part (length argument) first))))
 
 -- a calendar's address, a block's height, or a tag and what stands under it
 abbrev pub content_text : Att → List ℕ
@@ -37,20 +36,25 @@ content_text (bitcoin height) = codes "bitcoin " ++ decimal height
 content_text (unknown tag payload) = codes "unknown " ++ (hex_of tag ++ (codes " [" ++ (hex_of payload ++ codes "]")))
 
 abbrev pub item_line : ℕ → Piece → List ℕ
-item_line depth (operation kind argument offset first) = operation_line depth kind argument offset first
+item_line depth (operation kind argument offset first) =
+    indent depth ++ (decimal offset ++ (codes " " ++ operation_text kind argument first))
 item_line depth (attestation a payload offset first) =
     indent depth ++ (decimal offset ++ (codes " " ++ (content_text a ++ part (length payload) first)))
 
 abbrev pub digest_line : Head → List ℕ
 digest_line h = codes "digest " ++ (hex_of h.digest ++ (codes " (tag at " ++ (decimal h.hash ++ codes ")")))
 
+-- bytes under an attestation, behind a word
+abbrev pub under_line : ℕ → List ℕ → List ℕ → List ℕ
+under_line depth word bytes = indent depth ++ (codes "  " ++ (word ++ (codes " " ++ hex_of bytes)))
+
 -- a message under an attestation
 abbrev pub message_line : ℕ → List ℕ → List ℕ
-message_line depth message = indent depth ++ (codes "  message " ++ hex_of message)
+message_line depth message = under_line depth (codes "message") message
 
 -- the same from its last byte to its first, as block explorers print roots
 abbrev pub root_line : ℕ → List ℕ → List ℕ
-root_line depth message = indent depth ++ (codes "  root " ++ hex_of (reverse message))
+root_line depth message = under_line depth (codes "root") (reverse message)
 
 -- a count beside its limit
 abbrev pub of_limit : ℕ → ℕ → List ℕ

@@ -1,8 +1,6 @@
 // What the words after the program's name ask for.
-ghost use Rattle.std.specs.Prelude.{◌≡◌, codes};
+ghost use Rattle.std.specs.Prelude.{◌≡◌};
 ghost use Rattle.account.specs.Commands.{asked, asked_by};
-
-use proof::attestations::same;
 
 #[derive(Clone, Copy)]
 pub enum Command<'a> {
@@ -13,36 +11,23 @@ pub enum Command<'a> {
     Show(&'a str),
     // the same, with the message under each attestation
     Messages(&'a str),
-    // what the headers at a path cover; the words behind the path are its options
-    Headers(&'a str),
+    // what the headers at a path cover, by the options behind it
+    Headers {
+        path: &'a str,
+        options: &'a [&'a str],
+    },
     Unknown,
 }
 
-// Of count words, the first three; those that are not there are empty.
-pub fn parse<'a>(count: usize, first: &str, second: &'a str, third: &'a str) -> Command<'a>
-    ensures { asked result ≡ asked_by count first.now second.now third.now }
+pub fn parse<'a>(words: &'a [&'a str]) -> Command<'a>
+    ensures { asked result ≡ asked_by words.now }
 {
-    if count == 0 {
-        return Command::Usage;
+    match *words {
+        [] | ["help"] => Command::Usage,
+        ["version"] => Command::Version,
+        ["show", path] => Command::Show(path),
+        ["show", "--messages", path] => Command::Messages(path),
+        ["headers", path, ref options @ ..] => Command::Headers { path, options },
+        _ => Command::Unknown,
     }
-    let word = first.as_bytes();
-    if count == 1 && same(word, "help".as_bytes()) {
-        return Command::Usage;
-    }
-    if count == 1 && same(word, "version".as_bytes()) {
-        return Command::Version;
-    }
-    if count == 2 && same(word, "show".as_bytes()) {
-        return Command::Show(second);
-    }
-    if count == 3
-        && same(word, "show".as_bytes())
-        && same(second.as_bytes(), "--messages".as_bytes())
-    {
-        return Command::Messages(third);
-    }
-    if count >= 2 && same(word, "headers".as_bytes()) {
-        return Command::Headers(second);
-    }
-    Command::Unknown
 }

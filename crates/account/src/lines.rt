@@ -1,18 +1,19 @@
 // The lines of an account: one for the digest, one for each item, one for the counts.
-ghost use Rattle.std.specs.Prelude.{◌≡◌, ◌+◌, ◌*◌, ◌<◌, ◌++◌, reverse, length, replicate, IfOk, string_bytes, codes, decimal};
+ghost use Rattle.std.specs.Prelude.{◌≡◌, reverse, IfOk, string_bytes};
 ghost use Rattle.proof.specs.Pieces.{piece, attested};
 ghost use Rattle.format.specs.Files.{head};
 ghost use Rattle.proof.specs.Counted.{counted};
-ghost use Rattle.account.specs.Words.{hex_of};
-ghost use Rattle.account.specs.Lines.{kind_word, indent, part as part_text, operation_line, content_text, item_line, digest_line, message_line, root_line, counts_line, of_limit, size_line, canonical_line};
+ghost use Rattle.account.specs.Lines.{kind_word, part as part_text, operation_text, content_text, item_line, digest_line, under_line, message_line, root_line, counts_line, of_limit, size_line, canonical_line};
 
 use crate::words::{hex, spaces, text};
+use claims::size::Size;
 use format::Kind;
 use proof::counts::Counts;
 use proof::item::{Content, Item};
 use proof::walk::Step;
 use std::alloc::{AllocError, Global};
 
+// Kept: an impl of Display would stand in the crate that has the type, and these words are the program's own.
 fn kind_word(kind: Kind) -> &'static str
     ensures { result.now ≡ kind_word kind }
 {
@@ -32,24 +33,22 @@ fn part(heap: Global, size: usize, first: usize) -> Result<String, AllocError>
     format!(in heap; " ({size} at {first})")
 }
 
-fn operation_line(
+// An argument is shown where there is one.
+fn operation_text(
     heap: Global,
-    depth: u8,
     kind: Kind,
     argument: &[u8],
-    offset: usize,
     first: usize,
 ) -> Result<String, AllocError>
-    ensures { IfOk result (λ s. string_bytes s ≡ operation_line depth kind argument.now offset first) }
+    ensures { IfOk result (λ s. string_bytes s ≡ operation_text kind argument.now first) }
 {
-    let indent = spaces(heap, 2 * depth as usize)?;
     let word = kind_word(kind);
-    if argument.len() == 0 {
-        return format!(in heap; "{indent}{offset} {word}");
+    if argument.is_empty() {
+        return String::from_str(heap, word);
     }
     let bytes = hex(heap, argument)?;
     let part = part(heap, argument.len(), first)?;
-    format!(in heap; "{indent}{offset} {word} [{bytes}]{part}")
+    format!(in heap; "{word} [{bytes}]{part}")
 }
 
 fn content_text(heap: Global, content: &Content) -> Result<String, AllocError>
@@ -69,39 +68,31 @@ fn content_text(heap: Global, content: &Content) -> Result<String, AllocError>
     }
 }
 
-fn attestation_line(
-    heap: Global,
-    depth: u8,
-    content: &Content,
-    size: usize,
-    offset: usize,
-    first: usize,
-) -> Result<String, AllocError>
-    ensures { IfOk result (λ s. string_bytes s ≡ indent depth ++ (decimal offset ++ (codes " " ++ (content_text (attested content.now) ++ part_text size first)))) }
-{
-    let indent = spaces(heap, 2 * depth as usize)?;
-    let content = content_text(heap, content)?;
-    let part = part(heap, size, first)?;
-    format!(in heap; "{indent}{offset} {content}{part}")
-}
-
 // An item with its offsets, indented by its depth.
 pub fn item_line(heap: Global, step: &Step) -> Result<String, AllocError>
     ensures { IfOk result (λ s. string_bytes s ≡ item_line step.now.depth (piece step.now.item)) }
 {
+    let indent = spaces(heap, 2 * step.depth as usize)?;
     match step.item {
         Item::Operation {
             kind,
             argument,
             offset,
             first,
-        } => operation_line(heap, step.depth, kind, argument, offset, first),
+        } => {
+            let operation = operation_text(heap, kind, argument, first)?;
+            format!(in heap; "{indent}{offset} {operation}")
+        }
         Item::Attestation {
             content,
             payload,
             offset,
             first,
-        } => attestation_line(heap, step.depth, &content, payload.len(), offset, first),
+        } => {
+            let content = content_text(heap, &content)?;
+            let part = part(heap, payload.len(), first)?;
+            format!(in heap; "{indent}{offset} {content}{part}")
+        }
     }
 }
 
@@ -112,45 +103,44 @@ pub fn digest_line(heap: Global, digest: &[u8], hash: usize) -> Result<String, A
     format!(in heap; "digest {bytes} (tag at {hash})")
 }
 
+// Bytes under an attestation, behind a word.
+fn under_line(heap: Global, depth: u8, word: &str, bytes: &[u8]) -> Result<String, AllocError>
+    ensures { IfOk result (λ s. string_bytes s ≡ under_line depth word.now bytes.now) }
+{
+    let indent = spaces(heap, 2 * depth as usize)?;
+    let bytes = hex(heap, bytes)?;
+    format!(in heap; "{indent}  {word} {bytes}")
+}
+
 // The message that an attestation is of.
 pub fn message_line(heap: Global, depth: u8, message: &[u8]) -> Result<String, AllocError>
     ensures { IfOk result (λ s. string_bytes s ≡ message_line depth message.now) }
 {
-    let indent = spaces(heap, 2 * depth as usize)?;
-    let bytes = hex(heap, message)?;
-    format!(in heap; "{indent}  message {bytes}")
+    under_line(heap, depth, "message", message)
 }
 
-// The bytes from last to first.
 fn mirrored(heap: Global, bytes: &[u8]) -> Result<Vec<u8>, AllocError>
     ensures { IfOk result (λ v. v.items ≡ reverse bytes.now) }
 {
     bytes.iter().rev().copied().collect(heap)
 }
 
-fn mirrored_hex(heap: Global, bytes: &[u8]) -> Result<String, AllocError>
-    ensures { IfOk result (λ s. string_bytes s ≡ hex_of (reverse bytes.now)) }
-{
-    let mirror = mirrored(heap, bytes)?;
-    hex(heap, mirror.as_slice())
-}
-
 // The same from its last byte to its first, as block explorers print roots.
 pub fn root_line(heap: Global, depth: u8, message: &[u8]) -> Result<String, AllocError>
     ensures { IfOk result (λ s. string_bytes s ≡ root_line depth message.now) }
 {
-    let indent = spaces(heap, 2 * depth as usize)?;
-    let bytes = mirrored_hex(heap, message)?;
-    format!(in heap; "{indent}  root {bytes}")
+    under_line(heap, depth, "root", &mirrored(heap, message)?)
 }
 
 // The claims counted by the kind of their attestation.
 pub fn counts_line(heap: Global, counts: &Counts) -> Result<String, AllocError>
     ensures { IfOk result (λ s. string_bytes s ≡ counts_line (counted counts.now)) }
 {
-    let pending = counts.pending;
-    let bitcoin = counts.bitcoin;
-    let unknown = counts.unknown;
+    let Counts {
+        pending,
+        bitcoin,
+        unknown,
+    } = *counts;
     format!(in heap; "claims: pending {pending}, bitcoin {bitcoin}, unknown {unknown}")
 }
 
@@ -162,17 +152,12 @@ fn of_limit(heap: Global, count: usize, limit: usize) -> Result<String, AllocErr
 }
 
 // The size of a set of claims beside its limits.
-pub fn size_line(
-    heap: Global,
-    operations: usize,
-    attestations: usize,
-    bytes: usize,
-) -> Result<String, AllocError>
-    ensures { IfOk result (λ s. string_bytes s ≡ size_line operations attestations bytes) }
+pub fn size_line(heap: Global, size: &Size) -> Result<String, AllocError>
+    ensures { IfOk result (λ s. string_bytes s ≡ size_line size.now.operations size.now.attestations size.now.bytes) }
 {
-    let ops = of_limit(heap, operations, 1024)?;
-    let atts = of_limit(heap, attestations, 128)?;
-    let sum = of_limit(heap, bytes, 32768)?;
+    let ops = of_limit(heap, size.operations, 1024)?;
+    let atts = of_limit(heap, size.attestations, 128)?;
+    let sum = of_limit(heap, size.bytes, 32768)?;
     format!(in heap; "size: ops {ops}, atts {atts}, bytes {sum}")
 }
 

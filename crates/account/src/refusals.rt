@@ -8,6 +8,7 @@ use proof::fault::Fault;
 use std::alloc::{AllocError, Global};
 
 // What a fault means.
+// Kept: an impl of Display would stand in the crate that has the type, and these words are the program's own.
 pub fn meaning(fault: &Fault) -> &'static str
     ensures { result.now ≡ meaning_text fault.now }
 {

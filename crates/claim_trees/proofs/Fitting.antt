@@ -2,6 +2,7 @@
 use Rattle.std.proofs.Common.{◌≡◌, ℕ, ◌+◌, ◌^◌, ◌<◌, ◌≤◌, Bool, true, false, not, List, [], ◌∷◌, ◌++◌, map, length, sym, refl, ap, ◌∙◌, subst, inl, inr, arith}
 use Rattle.std.proofs.lemmas.Bool.{and_parts, and_from, lt-ltb, le-leb, eq-eqb}
 use Rattle.std.proofs.lemmas.List.{length-append, length-map}
+use Rattle.std.proofs.lemmas.List.Folds.{list_all-append}
 use Rattle.format.specs.declared.Kind.{Kind}
 use Rattle.format.specs.Outcome.{Outcome, got}
 use Rattle.format.specs.Operations.{Op, op_of, result_size, message_limit, path_limit}
@@ -27,8 +28,7 @@ every_all f [] h = refl
 every_all f (x ∷ xs) h = and_from _ _ (h x (inl refl)) (every_all f xs (λ y i. h y (inr i)))
 
 pub every_append : {A : Type 0} (f : A → Bool) (xs ys : List A) → every f xs ≡ true → every f ys ≡ true → every f (xs ++ ys) ≡ true
-every_append f [] ys h k = k
-every_append f (x ∷ xs) ys h k = let p = and_parts (f x) (every f xs) h in and_from _ _ p.0 (every_append f xs ys p.1 k)
+every_append f xs ys h k = list_all-append f xs ys ∙ and_from _ _ h k
 
 -- ---- what the grammar spells
 

@@ -16,4 +16,3 @@ pub mod Sizes
 pub mod WrittenFiles
 pub mod CanonicalFiles
 pub mod Bounded
-pub mod Compared

@@ -1,12 +1,12 @@
 -- The orders are strict and total.
-use Rattle.std.proofs.Common.{◌≡◌, ℕ, ◌<◌, true, cond, eqb, List, [], ◌∷◌, Ordering, Less, Equal, Greater, sym, refl, ap, ◌∙◌, subst, true≢false, arith}
-use Rattle.std.specs.Cmp.{nat_cmp_total, ranks}
+use Rattle.std.proofs.Common.{◌≡◌, ℕ, ◌<◌, true, cond, eqb, List, [], ◌∷◌, Ordering, Less, Equal, Greater, sym, refl, ap, ◌∙◌, subst, true≢false}
+use Rattle.std.specs.Cmp.{IsTotalOrder, nat_cmp_total, ranks, tied_itself, on_total, then_total}
 use Rattle.std.specs.Ordering.{MatchOrdering, is_lt, is_gt, ordering_reverse, ordering_then, nat_cmp}
 use Rattle.format.specs.Operations.{Op, sha256, append, prepend, reverse, hexlify}
 use Rattle.format.specs.Attestations.{Att, pending, bitcoin, unknown}
 use Rattle.format.specs.Nodes.{Claim, claim}
-use Rattle.claim_trees.specs.Order.{op_tag, argument_of, tag_of, kind_of_att, height_of, bytes_of, byte_order, op_order, att_order, list_order, path_order, claim_order, StrictTotal}
-use Rattle.std.specs.Cmp.Lexicographic.{lists_total}
+use Rattle.claim_trees.specs.Order.{op_tag, argument_of, tag_of, kind_of_att, height_of, bytes_of, byte_order, op_order, att_order, path_order, claim_order, StrictTotal}
+use Rattle.std.specs.Cmp.Lexicographic.{slice_cmp, lists_total}
 
 -- ---- orderings
 
@@ -15,112 +15,54 @@ is_less Less h = refl
 is_less Equal h = absurd (true≢false (sym h))
 is_less Greater h = absurd (true≢false (sym h))
 
-not_greater : {A : Type 0} → Greater ≡ Less → A
-not_greater e = absurd (true≢false (ap is_gt e))
-
 both_equal : (r s : Ordering) → ordering_then r s ≡ Equal → (r ≡ Equal) × (s ≡ Equal)
 both_equal Less s h = absurd (true≢false (ap is_lt h))
 both_equal Equal s h = (refl, h)
 both_equal Greater s h = absurd (true≢false (ap is_gt h))
 
-then_flip : (a b : Ordering) → ordering_then (ordering_reverse a) (ordering_reverse b) ≡ ordering_reverse (ordering_then a b)
-then_flip Less b = refl
-then_flip Equal b = refl
-then_flip Greater b = refl
+-- ---- orders of the library
+
+-- as a comparison of the library
+pub totally : {A : Type 0} {p : A → A → Ordering} → StrictTotal p → IsTotalOrder p
+totally {p = p} s = record { antisymm = s.flip; trans = s.trans; congr = λ x y z e. ap (λ w. p w z) (s.same x y e) }
+
+-- one that tells everything apart
+strict : {A : Type 0} {p : A → A → Ordering} → IsTotalOrder p → ((x y : A) → p x y ≡ Equal → x ≡ y) → StrictTotal p
+strict o same = record { itself = tied_itself o; same = same; flip = o.antisymm; trans = o.trans }
 
 -- ---- one order behind another
 
 module _ {A : Type 0} {p : A → A → Ordering} (s : StrictTotal p) where
-  chain_by : (x y z : A) (a b c k m : Ordering) → (a ≡ Less → b ≡ Less → c ≡ Less) → p x y ≡ k → p y z ≡ m → ordering_then k a ≡ Less → ordering_then m b ≡ Less → ordering_then (p x z) c ≡ Less
-  chain_by x y z a b c Less Less f e d h g = ap (λ k. ordering_then k c) (s.trans x y z e d)
-  chain_by x y z a b c Less Equal f e d h g = ap (λ k. ordering_then k c) (ap (p x) (sym (s.same y z d)) ∙ e)
-  chain_by x y z a b c Less Greater f e d h g = not_greater g
-  chain_by x y z a b c Equal Less f e d h g = ap (λ k. ordering_then k c) (ap (λ w. p w z) (s.same x y e) ∙ d)
-  chain_by x y z a b c Equal Equal f e d h g = ap (λ k. ordering_then k c) (ap (λ w. p w z) (s.same x y e) ∙ d) ∙ f h g
-  chain_by x y z a b c Equal Greater f e d h g = not_greater g
-  chain_by x y z a b c Greater m f e d h g = not_greater h
-
-  chain : (x y z : A) (a b c : Ordering) → (a ≡ Less → b ≡ Less → c ≡ Less) → ordering_then (p x y) a ≡ Less → ordering_then (p y z) b ≡ Less → ordering_then (p x z) c ≡ Less
-  chain x y z a b c f h g = chain_by x y z a b c (p x y) (p y z) f refl refl h g
-
   -- by a key that tells everything
   pub keyed : {K : Type 0} (k : K → A) → ((x y : K) → k x ≡ k y → x ≡ y) → StrictTotal (λ x y. p (k x) (k y))
-  keyed k one = record {
-    itself = λ x. s.itself (k x);
-    same = λ x y h. one x y (s.same (k x) (k y) h);
-    flip = λ x y. s.flip (k x) (k y);
-    trans = λ x y z. s.trans (k x) (k y) (k z);
-  }
+  keyed k one = strict (on_total k (totally s)) (λ x y h. one x y (s.same (k x) (k y) h))
 
-  list_itself : (xs : List A) → list_order p xs xs ≡ Equal
-  list_itself [] = refl
-  list_itself (x ∷ xs) = (λ i. ordering_then (s.itself x i) (list_order p xs xs)) ∙ list_itself xs
-
-  list_same : (xs ys : List A) → list_order p xs ys ≡ Equal → xs ≡ ys
+  list_same : (xs ys : List A) → slice_cmp p xs ys ≡ Equal → xs ≡ ys
   list_same [] [] h = refl
   list_same [] (y ∷ ys) h = absurd (true≢false (ap is_lt h))
   list_same (x ∷ xs) [] h = absurd (true≢false (ap is_gt h))
   list_same (x ∷ xs) (y ∷ ys) h =
-      let e = both_equal (p x y) (list_order p xs ys) h in
+      let e = both_equal (p x y) (slice_cmp p xs ys) h in
       λ i. s.same x y e.0 i ∷ list_same xs ys e.1 i
 
-  list_flip : (xs ys : List A) → list_order p xs ys ≡ ordering_reverse (list_order p ys xs)
-  list_flip [] [] = refl
-  list_flip [] (y ∷ ys) = refl
-  list_flip (x ∷ xs) [] = refl
-  list_flip (x ∷ xs) (y ∷ ys) = (λ i. ordering_then (s.flip x y i) (list_flip xs ys i)) ∙ then_flip (p y x) (list_order p ys xs)
-
-  list_trans : (xs ys zs : List A) → list_order p xs ys ≡ Less → list_order p ys zs ≡ Less → list_order p xs zs ≡ Less
-  list_trans [] [] zs h g = g
-  list_trans [] (y ∷ ys) [] h g = not_greater g
-  list_trans [] (y ∷ ys) (z ∷ zs) h g = refl
-  list_trans (x ∷ xs) [] zs h g = not_greater h
-  list_trans (x ∷ xs) (y ∷ ys) [] h g = g
-  list_trans (x ∷ xs) (y ∷ ys) (z ∷ zs) h g = chain x y z _ _ _ (list_trans xs ys zs) h g
-
-  pub listed : StrictTotal (list_order p)
-  listed = record { itself = list_itself; same = list_same; flip = list_flip; trans = list_trans }
+  pub listed : StrictTotal (slice_cmp p)
+  listed = strict (lists_total (totally s)) list_same
 
   pub paired : {B : Type 0} {q : B → B → Ordering} → StrictTotal q → StrictTotal {A = A × B} (λ x y. ordering_then (p x.0 y.0) (q x.1 y.1))
-  paired {q = q} t = record {
-    itself = λ x. (λ i. ordering_then (s.itself x.0 i) (q x.1 x.1)) ∙ t.itself x.1;
-    same = λ x y h. let e = both_equal (p x.0 y.0) (q x.1 y.1) h in λ i. (s.same x.0 y.0 e.0 i, t.same x.1 y.1 e.1 i);
-    flip = λ x y. (λ i. ordering_then (s.flip x.0 y.0 i) (t.flip x.1 y.1 i)) ∙ then_flip (p y.0 x.0) (q y.1 x.1);
-    trans = λ x y z. chain x.0 y.0 z.0 _ _ _ (t.trans x.1 y.1 z.1);
-  }
+  paired {q = q} t = strict
+      (then_total (on_total (λ x. x.0) (totally s)) (on_total (λ x. x.1) (totally t)))
+      (λ x y h. let e = both_equal (p x.0 y.0) (q x.1 y.1) h in λ i. (s.same x.0 y.0 e.0 i, t.same x.1 y.1 e.1 i))
 
 -- ---- numbers and bytes
 
 number_same : (x y : ℕ) → nat_cmp x y ≡ Equal → x ≡ y
 number_same x y e = subst (λ k. MatchOrdering k (x < y) (x ≡ y) (y < x)) e (ranks x y)
 
-number_itself_by : (x : ℕ) (r : Ordering) → MatchOrdering r (x < x) (x ≡ x) (x < x) → r ≡ Equal
-number_itself_by x Less h = absurd (omega arith)
-number_itself_by x Equal h = refl
-number_itself_by x Greater h = absurd (omega arith)
-
 pub numbers : StrictTotal nat_cmp
-numbers = record {
-  itself = λ x. number_itself_by x (nat_cmp x x) (ranks x x);
-  same = number_same;
-  flip = nat_cmp_total.antisymm;
-  trans = nat_cmp_total.trans;
-}
-
-bytes_itself : (xs : List ℕ) → byte_order xs xs ≡ Equal
-bytes_itself [] = refl
-bytes_itself (x ∷ xs) = (λ i. ordering_then (numbers.itself x i) (byte_order xs xs)) ∙ bytes_itself xs
-
-bytes_same : (xs ys : List ℕ) → byte_order xs ys ≡ Equal → xs ≡ ys
-bytes_same [] [] h = refl
-bytes_same [] (y ∷ ys) h = absurd (true≢false (ap is_lt h))
-bytes_same (x ∷ xs) [] h = absurd (true≢false (ap is_gt h))
-bytes_same (x ∷ xs) (y ∷ ys) h =
-    let e = both_equal (nat_cmp x y) (byte_order xs ys) h in
-    λ i. number_same x y e.0 i ∷ bytes_same xs ys e.1 i
+numbers = strict nat_cmp_total number_same
 
 pub bytes : StrictTotal byte_order
-bytes = record { itself = bytes_itself; same = bytes_same; flip = (lists_total nat_cmp_total).antisymm; trans = (lists_total nat_cmp_total).trans }
+bytes = listed numbers
 
 -- ---- operations
 
@@ -158,6 +100,9 @@ att_back (unknown t p) = refl
 
 pub atts : StrictTotal att_order
 atts = keyed (paired bytes (paired numbers (paired numbers bytes))) att_key (λ a b e. sym (att_back a) ∙ (ap att_from e ∙ att_back b))
+
+pub atts_total : IsTotalOrder att_order
+atts_total = totally atts
 
 -- ---- claims
 

@@ -10,7 +10,7 @@ use Rattle.claim_trees.specs.Bytes.{groups, shortest}
 use Rattle.claim_trees.specs.Laws.{Small, NumberLaw}
 
 -- a bound that k + 1 groups hold
-abbrev room : ℕ → ℕ
+abbrev pub room : ℕ → ℕ
 room zero = 128
 room (suc k) = 128 * room k
 

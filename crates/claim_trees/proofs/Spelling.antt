@@ -2,13 +2,14 @@
 use Rattle.std.proofs.Common.{◌≡◌, ℕ, ◌+◌, ◌^◌, ◌<◌, ◌≤◌, Bool, true, not, ◌&&◌, eqb, ltb, leb, List, [], ◌∷◌, ◌++◌, map, length, drop, sym, refl, ap, ◌∙◌, subst, arith}
 use Rattle.std.proofs.lemmas.Bool.{and_parts, and_from, ltb-true, leb-true, eqb-true, not-true, false≢true}
 use Rattle.std.proofs.lemmas.List.{append-nil, append_assoc, length-append}
+use Rattle.std.proofs.lemmas.Slice.Eq.{bytes_eq-Decides}
 use Rattle.format.specs.Outcome.{got}
 use Rattle.format.specs.Operations.{Op, sha256, append, prepend, reverse, hexlify, message_limit, path_limit}
 use Rattle.format.specs.Attestations.{Att, pending, bitcoin, unknown, pending_tag, bitcoin_tag, payload_limit, address_limit, same}
 use Rattle.format.specs.Nodes.{Claim, under, node_at}
 use Rattle.format.specs.Grammar.{Block, Content, Branch, Node, last, another}
 use Rattle.format.specs.Grammar as grammar
-use Rattle.format.proofs.Sound.{address_each, is_same}
+use Rattle.format.proofs.Sound.{address_each}
 use Rattle.format.proofs.Complete.{full_node}
 use Rattle.claim_trees.specs.Tree.{Tree, end, more, here, through, claims, In, filled}
 use Rattle.claim_trees.specs.Order.{tag_of, sorted}
@@ -83,7 +84,7 @@ short_number n h = (shortest_is n h).short
 
 -- ---- attestations
 differs : (xs ys : List ℕ) → not (same xs ys) ≡ true → xs ≡ ys → ⊥
-differs xs ys h e = false≢true (sym (not-true (same xs ys) h) ∙ subst (λ z. same xs z ≡ true) e (is_same xs))
+differs xs ys h e = false≢true (sym (not-true (same xs ys) h) ∙ (bytes_eq-Decides xs ys).1 e)
 
 content_is : (a : Att) → att_fits a ≡ true → Content (tag_of a) (payload_of a) a
 content_is (bitcoin h) f = grammar.height (shortest_is h (ltb-true h (2 ^ 32) f))

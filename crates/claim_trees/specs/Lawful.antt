@@ -1,5 +1,6 @@
 -- What every dossier's tree keeps.
 use Rattle.std.specs.Prelude.{ℕ, ◌+◌, ◌^◌, Bool, true, not, ◌&&◌, List, [], ◌∷◌, length, ◌==◌, nat_le, nat_lt}
+pub use Rattle.std.specs.List.{list_all as every}
 use Rattle.format.specs.Operations.{Op, sha256, append, prepend, reverse, hexlify, result_size, message_limit, path_limit}
 use Rattle.format.specs.Attestations.{Att, pending, bitcoin, unknown, pending_tag, bitcoin_tag, payload_limit, address_limit, same, address_bytes}
 use Rattle.format.specs.Nodes.{Claim}
@@ -39,10 +40,6 @@ fits_at depth size c = path_fits depth size c.path && att_fits c.attestation
 -- a claim that a proof file can hold
 abbrev pub claim_fits : Claim → Bool
 claim_fits c = fits_at 0 32 c
-
-abbrev pub every : {A : Type 0} → (A → Bool) → List A → Bool
-every test [] = true
-every test (x ∷ xs) = test x && every test xs
 
 -- sorted without repeats, no operation over an empty node, and every claim one that a proof file can hold
 abbrev pub lawful : List Att → Tree → Bool

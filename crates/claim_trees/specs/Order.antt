@@ -1,6 +1,6 @@
 -- The order of operations, attestations and claims, and sorted trees.
 use Rattle.std.specs.Prelude.{◌≡◌, ℕ, Bool, true, ◌&&◌, List, [], ◌∷◌}
-use Rattle.std.specs.declared.cmp.Ordering.TheVariants.{Less, Equal, Greater}
+use Rattle.std.specs.declared.cmp.Ordering.TheVariants.{Less, Equal}
 use Rattle.std.specs.declared.cmp.Ordering.{Ordering}
 use Rattle.std.specs.Cmp.Lexicographic.{slice_cmp}
 use Rattle.std.specs.Ordering.{is_lt, ordering_reverse, ordering_then, nat_cmp}
@@ -69,15 +69,8 @@ att_order a b =
     (ordering_then (nat_cmp (kind_of_att a) (kind_of_att b))
     (ordering_then (nat_cmp (height_of a) (height_of b)) (byte_order (bytes_of a) (bytes_of b))))
 
--- lists of anything ordered compare in the same way
-abbrev pub list_order : {A : Type 0} → (A → A → Ordering) → List A → List A → Ordering
-list_order order [] [] = Equal
-list_order order [] (y ∷ ys) = Less
-list_order order (x ∷ xs) [] = Greater
-list_order order (x ∷ xs) (y ∷ ys) = ordering_then (order x y) (list_order order xs ys)
-
 abbrev pub path_order : List Op → List Op → Ordering
-path_order os ps = list_order op_order os ps
+path_order os ps = slice_cmp op_order os ps
 
 -- the written order: by path, so that attestations stand before the branches of their node, then by attestation
 abbrev pub claim_order : Claim → Claim → Ordering

@@ -38,3 +38,5 @@ unfolding shortest
 five_bytes n l =
     more_groups 3 n 4 (omega arith) (more_groups 2 (n / 128) 3 (omega arith)
     (more_groups 1 (n / 128 / 128) 2 (omega arith) (more_groups 0 (n / 128 / 128 / 128) 1 (omega arith) (last_group (n / 128 / 128 / 128 / 128)))))
+
+pub ruleset lengths = (one_byte, two_bytes, three_bytes, four_bytes, five_bytes)

@@ -1,31 +1,18 @@
 // The order of operations and of attestations.
-ghost use Rattle.std.specs.Prelude.{◌≡◌};
-ghost use Rattle.claim_trees.specs.Order.{op_tag, argument_of, tag_of, kind_of_att, height_of, bytes_of, byte_order, op_order, att_order};
+ghost use Rattle.std.specs.Prelude.{◌≡◌, Some};
+ghost use Rattle.std.specs.Cmp.{on_equiv, on_total, partial_equiv_from_equiv, eq_by_cmp_equiv, partial_order_from_total};
+ghost use Rattle.std.specs.Ordering.{is_eq};
+ghost use Rattle.claim_trees.specs.Order.{op_tag, kind_of_op, argument_of, tag_of, kind_of_att, height_of, bytes_of, op_order, att_order};
+ghost use Rattle.claim_trees.proofs.Orders.{atts_total};
 ghost use Rattle.claims.specs.Models.{op, att};
-ghost use Rattle.std.specs.Ordering.{nat_cmp};
 
 use crate::tree::{Attestation, Operation};
+use format::{BITCOIN, Kind, PENDING};
 use std::cmp::Ordering;
 
-const BITCOIN: [u8; 8] = [0x05, 0x88, 0x96, 0x0d, 0x73, 0xd7, 0x19, 0x01];
-
-const PENDING: [u8; 8] = [0x83, 0xdf, 0xe3, 0x0d, 0x2e, 0xf9, 0x0c, 0x8e];
-
-// From the left, a beginning before its continuation.
-pub(crate) fn byte_order(a: &[u8], b: &[u8]) -> Ordering
-    ensures { result ≡ byte_order a.now b.now }
-{
-    a.cmp(b)
-}
-
-fn number_order(a: u32, b: u32) -> Ordering
-    ensures { result ≡ nat_cmp a b }
-{
-    a.cmp(&b)
-}
-
 impl Operation {
-    fn tag(&self) -> u8
+    // The byte that begins it in a file.
+    pub fn tag(&self) -> u8
         ensures { result ≡ op_tag (op self.now) }
     {
         match self {
@@ -34,6 +21,19 @@ impl Operation {
             Operation::Prepend(_) => 0xf1,
             Operation::Reverse => 0xf2,
             Operation::Hexlify => 0xf3,
+        }
+    }
+
+    // What it does, without its argument.
+    pub fn kind(&self) -> Kind
+        ensures { result ≡ kind_of_op (op self.now) }
+    {
+        match self {
+            Operation::Sha256 => Kind::Sha256,
+            Operation::Append(_) => Kind::Append,
+            Operation::Prepend(_) => Kind::Prepend,
+            Operation::Reverse => Kind::Reverse,
+            Operation::Hexlify => Kind::Hexlify,
         }
     }
 
@@ -48,12 +48,11 @@ impl Operation {
         }
     }
 
-    // By tag, then by argument.
+    // By tag, then by argument: the derived order, since the variants stand in the order of their tags.
     pub fn order(&self, other: &Operation) -> Ordering
         ensures { result ≡ op_order (op self.now) (op other.now) }
     {
-        let tags = number_order(self.tag() as u32, other.tag() as u32);
-        tags.then(byte_order(self.argument(), other.argument()))
+        self.cmp(other)
     }
 }
 
@@ -68,44 +67,57 @@ impl Attestation {
         }
     }
 
-    fn kind(&self) -> u32
-        ensures { result ≡ kind_of_att (att self.now) }
+    // What the order compares, the first first: tag, kind, height, and the address or payload.
+    fn key(&self) -> ([u8; 8], u8, u32, &[u8])
+        ensures tag { result.0 ≡ tag_of (att self.now) }
+        ensures kind { result.1 ≡ kind_of_att (att self.now) }
+        ensures height { result.2 ≡ height_of (att self.now) }
+        ensures bytes { result.3.now ≡ bytes_of (att self.now) }
     {
         match self {
-            Attestation::Bitcoin(_) => 0,
-            Attestation::Pending(_) => 1,
-            Attestation::Unknown { tag: _, payload: _ } => 2,
+            Attestation::Bitcoin(height) => (self.tag(), 0, *height, &[]),
+            Attestation::Pending(address) => (self.tag(), 1, 0, address),
+            Attestation::Unknown { payload, .. } => (self.tag(), 2, 0, payload),
         }
     }
+}
 
-    fn height(&self) -> u32
-        ensures { result ≡ height_of (att self.now) }
-    {
-        match self {
-            Attestation::Bitcoin(height) => *height,
-            _ => 0,
-        }
-    }
+// The tag decides first, so the order can't be derived from the variants; under one tag heights compare as numbers, addresses
+// and payloads as bytes.
+impl Ord for Attestation {
+    ghost cmp = { λ a b. att_order (att a) (att b) };
 
-    // The address, or the payload of an unknown attestation.
-    fn bytes(&self) -> &[u8]
-        ensures { result.now ≡ bytes_of (att self.now) }
-    {
-        match self {
-            Attestation::Pending(address) => address.as_slice(),
-            Attestation::Bitcoin(_) => &[],
-            Attestation::Unknown { tag: _, payload } => payload.as_slice(),
-        }
-    }
+    ghost total = { on_total att atts_total };
 
-    // The tag decides first; under one tag heights compare as numbers, addresses and payloads as bytes.
-    pub fn order(&self, other: &Attestation) -> Ordering
-        ensures { result ≡ att_order (att self.now) (att other.now) }
-    {
-        let tags = byte_order(&self.tag(), &other.tag());
-        let kinds = number_order(self.kind(), other.kind());
-        let heights = number_order(self.height(), other.height());
-        let bytes = byte_order(self.bytes(), other.bytes());
-        tags.then(kinds.then(heights.then(bytes)))
+    ghost matches_partial_cmp = { λ a b i. Some (att_order (att a) (att b)) };
+
+    ghost matches_eq = { λ a b i. is_eq (att_order (att a) (att b)) };
+
+    fn cmp(&self, other: &Attestation) -> Ordering {
+        self.key().cmp(&other.key())
     }
+}
+
+impl PartialOrd for Attestation {
+    ghost partial_cmp = { λ a b. Some (att_order (att a) (att b)) };
+
+    ghost laws = { partial_order_from_total (on_total att atts_total) };
+
+    fn partial_cmp(&self, other: &Attestation) -> Option<Ordering> {
+        Some(Ord::cmp(self, other))
+    }
+}
+
+impl PartialEq for Attestation {
+    ghost eq = { λ a b. is_eq (att_order (att a) (att b)) };
+
+    ghost laws = { partial_equiv_from_equiv (on_equiv att (eq_by_cmp_equiv atts_total)) };
+
+    fn eq(&self, other: &Attestation) -> bool {
+        Ord::cmp(self, other).is_eq()
+    }
+}
+
+impl Eq for Attestation {
+    ghost laws = { on_equiv att (eq_by_cmp_equiv atts_total) };
 }

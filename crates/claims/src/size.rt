@@ -5,10 +5,11 @@ ghost use Rattle.claim_trees.specs.Onto.{payload_length};
 ghost use Rattle.claim_trees.specs.Size.{within as within_limits};
 ghost use Rattle.claim_trees.specs.Union.{unite, unify, union};
 ghost use Rattle.claims.specs.Models.{op, att, atts, tree, node};
-ghost use Rattle.claims.specs.Sizes.{amount, capped, cap, plus as added, zero, of_op, of_att, of_marks, of_tree, of_node, size_in, size_in_both};
+ghost use Rattle.claims.specs.Sizes.{amount, capped, cap, plus as added, of_op, of_att, of_marks, of_tree, of_node, size_in, size_in_both};
 
 use crate::tree::{Attestation, Branches, Marks, Node, Operation};
 use std::cmp::Ordering;
+use std::ops::Add;
 
 // What a dossier holds at most.
 const OPERATIONS: usize = 1024;
@@ -18,7 +19,7 @@ const ATTESTATIONS: usize = 128;
 const BYTES: usize = 32768;
 
 // Operations, attestations, and the bytes of their arguments and payloads.
-#[derive(Clone, Copy)]
+#[derive(Clone, Copy, Debug, Default, PartialEq, Eq)]
 pub struct Size {
     pub operations: usize,
     pub attestations: usize,
@@ -30,8 +31,7 @@ pub fn size_of(n: &Node) -> Size
     ensures size { amount result ≡ cap (size_in (node n.now)) }
     ensures limits { within_limits (amount result) ≡ within_limits (size_in (node n.now)) }
 {
-    let _summed = summed(n);
-    plus(of_marks(&n.marks), of_branches(&n.branches))
+    of_node(n)
 }
 
 // The size of the union, what both hold counted once.
@@ -39,9 +39,7 @@ pub fn size_of_both(x: &Node, y: &Node) -> Size
     ensures size { amount result ≡ cap (size_in_both (node x.now) (node y.now)) }
     ensures limits { within_limits (amount result) ≡ within_limits (size_in_both (node x.now) (node y.now)) }
 {
-    let _summed = summed_both(x, y);
-    let marks = of_both_marks(&x.marks, &y.marks);
-    plus(marks, of_both_branches(&x.branches, &y.branches))
+    of_both_nodes(x, y)
 }
 
 // Whether no limit is passed.
@@ -65,39 +63,33 @@ pub fn both_fit(x: &Node, y: &Node) -> bool
     within(&size_of_both(x, y))
 }
 
-// Adding up item by item gives the size.
-fn summed(n: &Node) -> u8
-    ensures size { of_node (node n.now) ≡ cap (size_in (node n.now)) }
-    ensures limits { within_limits (cap (size_in (node n.now))) ≡ within_limits (size_in (node n.now)) }
+// The same, added up item by item.
+fn of_node(n: &Node) -> Size
+    ensures { amount result ≡ of_node (node n.now) }
 {
-    0
+    of_marks(&n.marks) + of_branches(&n.branches)
 }
 
-fn summed_both(x: &Node, y: &Node) -> u8
-    ensures size { of_node (union (node x.now) (node y.now)) ≡ cap (size_in_both (node x.now) (node y.now)) }
-    ensures limits { within_limits (cap (size_in_both (node x.now) (node y.now))) ≡ within_limits (size_in_both (node x.now) (node y.now)) }
+fn of_both_nodes(x: &Node, y: &Node) -> Size
+    ensures { amount result ≡ of_node (union (node x.now) (node y.now)) }
 {
-    0
-}
-
-fn nothing() -> Size
-    ensures { amount result ≡ zero }
-{
-    Size {
-        operations: 0,
-        attestations: 0,
-        bytes: 0,
-    }
+    let marks = of_both_marks(&x.marks, &y.marks);
+    marks + of_both_branches(&x.branches, &y.branches)
 }
 
 // No sum passes the greatest number, however large the trees are.
-fn plus(a: Size, b: Size) -> Size
-    ensures { amount result ≡ added (amount a) (amount b) }
-{
-    Size {
-        operations: a.operations.saturating_add(b.operations),
-        attestations: a.attestations.saturating_add(b.attestations),
-        bytes: a.bytes.saturating_add(b.bytes),
+impl Add for Size {
+    type Output = Size;
+
+    ghost add_gives = { λ a b sum. amount sum ≡ added (amount a) (amount b) };
+
+    #[tactic(auto, unfolding(crate::specs::Sizes::plus, crate::specs::Sizes::cap))]
+    fn add(self, other: Size) -> Size {
+        Size {
+            operations: self.operations.saturating_add(other.operations),
+            attestations: self.attestations.saturating_add(other.attestations),
+            bytes: self.bytes.saturating_add(other.bytes),
+        }
     }
 }
 
@@ -134,7 +126,8 @@ fn payload_length(a: &Attestation) -> usize
 }
 
 // How many bytes a number takes in its shortest form, seven bits in each.
-fn number_length(n: usize) -> usize
+#[tactic(auto, using(crate::proofs::Numbers::lengths))]
+pub fn number_length(n: usize) -> usize
     ensures short { result ≤ 5 }
     ensures value { result ≡ length (shortest n) }
 {
@@ -151,12 +144,13 @@ fn number_length(n: usize) -> usize
     }
 }
 
+// Kept: of one list and none, since the same of two would then have a case for each list that ends first, and be no plainer.
 fn of_marks(m: &Marks) -> Size
     ensures { amount result ≡ of_marks (atts m.now) }
 {
     match m {
-        Marks::Done => nothing(),
-        Marks::Next(a) => plus(of_attestation(&a.attestation), of_marks(&a.rest)),
+        None => Size::default(),
+        Some(a) => of_attestation(&a.attestation) + of_marks(&a.rest),
     }
 }
 
@@ -164,21 +158,12 @@ fn of_both_marks(x: &Marks, y: &Marks) -> Size
     ensures { amount result ≡ of_marks (unite (atts x.now) (atts y.now)) }
 {
     match (x, y) {
-        (Marks::Done, _) => of_marks(y),
-        (_, Marks::Done) => of_marks(x),
-        (Marks::Next(a), Marks::Next(b)) => match a.attestation.order(&b.attestation) {
-            Ordering::Less => {
-                let rest = of_both_marks(&a.rest, y);
-                plus(of_attestation(&a.attestation), rest)
-            }
-            Ordering::Equal => {
-                let rest = of_both_marks(&a.rest, &b.rest);
-                plus(of_attestation(&a.attestation), rest)
-            }
-            Ordering::Greater => {
-                let rest = of_both_marks(x, &b.rest);
-                plus(of_attestation(&b.attestation), rest)
-            }
+        (None, _) => of_marks(y),
+        (_, None) => of_marks(x),
+        (Some(a), Some(b)) => match a.attestation.cmp(&b.attestation) {
+            Ordering::Less => of_attestation(&a.attestation) + of_both_marks(&a.rest, y),
+            Ordering::Equal => of_attestation(&a.attestation) + of_both_marks(&a.rest, &b.rest),
+            Ordering::Greater => of_attestation(&b.attestation) + of_both_marks(x, &b.rest),
         },
     }
 }
@@ -187,11 +172,11 @@ fn of_branches(b: &Branches) -> Size
     ensures { amount result ≡ of_tree (tree b.now) }
 {
     match b {
-        Branches::End => nothing(),
-        Branches::More(a) => {
-            let item = plus(of_operation(&a.operation), of_marks(&a.below.marks));
+        None => Size::default(),
+        Some(a) => {
+            let item = of_operation(&a.operation) + of_marks(&a.below.marks);
             let below = of_branches(&a.below.branches);
-            plus(item, plus(below, of_branches(&a.rest)))
+            item + (below + of_branches(&a.rest))
         }
     }
 }
@@ -200,24 +185,24 @@ fn of_both_branches(x: &Branches, y: &Branches) -> Size
     ensures { amount result ≡ of_tree (unify (tree x.now) (tree y.now)) }
 {
     match (x, y) {
-        (Branches::End, _) => of_branches(y),
-        (_, Branches::End) => of_branches(x),
-        (Branches::More(a), Branches::More(b)) => match a.operation.order(&b.operation) {
+        (None, _) => of_branches(y),
+        (_, None) => of_branches(x),
+        (Some(a), Some(b)) => match a.operation.order(&b.operation) {
             Ordering::Less => {
-                let item = plus(of_operation(&a.operation), of_marks(&a.below.marks));
+                let item = of_operation(&a.operation) + of_marks(&a.below.marks);
                 let below = of_branches(&a.below.branches);
-                plus(item, plus(below, of_both_branches(&a.rest, y)))
+                item + (below + of_both_branches(&a.rest, y))
             }
             Ordering::Equal => {
                 let marks = of_both_marks(&a.below.marks, &b.below.marks);
-                let item = plus(of_operation(&a.operation), marks);
+                let item = of_operation(&a.operation) + marks;
                 let below = of_both_branches(&a.below.branches, &b.below.branches);
-                plus(item, plus(below, of_both_branches(&a.rest, &b.rest)))
+                item + (below + of_both_branches(&a.rest, &b.rest))
             }
             Ordering::Greater => {
-                let item = plus(of_operation(&b.operation), of_marks(&b.below.marks));
+                let item = of_operation(&b.operation) + of_marks(&b.below.marks);
                 let below = of_branches(&b.below.branches);
-                plus(item, plus(below, of_both_branches(x, &b.rest)))
+                item + (below + of_both_branches(x, &b.rest))
             }
         },
     }

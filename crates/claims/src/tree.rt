@@ -1,7 +1,7 @@
 // The tree: a node has its attestations, ascending, then its branches, ascending, each an operation over the node below it.
 
-// An operation with its argument.
-#[derive(Drop)]
+// An operation with its argument. The variants stand in the order of their tags, which is the order of operations.
+#[derive(PartialEq, Eq, PartialOrd, Ord, Drop)]
 pub enum Operation {
     Sha256,
     Append(Vec<u8>),
@@ -18,13 +18,8 @@ pub enum Attestation {
     Unknown { tag: [u8; 8], payload: Vec<u8> },
 }
 
-// The attestations of a node.
-#[cycle(marks)]
-#[derive(Drop)]
-pub enum Marks {
-    Done,
-    Next(Box<Mark>),
-}
+// The attestations of a node. Parts that are moved need no memory, so two of these lists are united by a call that cannot fail.
+pub type Marks = Option<Box<Mark>>;
 
 #[cycle(marks)]
 #[derive(Drop)]
@@ -34,12 +29,7 @@ pub struct Mark {
 }
 
 // The branches of a node.
-#[cycle(branches)]
-#[derive(Drop)]
-pub enum Branches {
-    End,
-    More(Box<Branch>),
-}
+pub type Branches = Option<Box<Branch>>;
 
 #[cycle(branches)]
 #[derive(Drop)]

@@ -5,31 +5,30 @@ ghost use Rattle.claims.specs.Models.{atts, tree, node};
 
 use crate::tree::{Branches, Marks, Node};
 use std::cmp::Ordering;
-use std::mem;
 
 // The attestations of two nodes, one that both have once.
 pub fn unite(x: Marks, y: Marks) -> Marks
     ensures { atts result ≡ united (atts x) (atts y) }
 {
     match (x, y) {
-        (Marks::Done, y) => y,
-        (x, Marks::Done) => x,
-        (Marks::Next(mut a), Marks::Next(mut b)) => match a.attestation.order(&b.attestation) {
+        (None, y) => y,
+        (x, None) => x,
+        (Some(mut a), Some(mut b)) => match a.attestation.cmp(&b.attestation) {
             Ordering::Less => {
-                let rest = mem::replace(&mut a.rest, Marks::Done);
-                a.rest = unite(rest, Marks::Next(b));
-                Marks::Next(a)
+                let rest = a.rest.take();
+                a.rest = unite(rest, Some(b));
+                Some(a)
             }
             Ordering::Equal => {
-                let rest = mem::replace(&mut a.rest, Marks::Done);
-                let others = mem::replace(&mut b.rest, Marks::Done);
+                let rest = a.rest.take();
+                let others = b.rest.take();
                 a.rest = unite(rest, others);
-                Marks::Next(a)
+                Some(a)
             }
             Ordering::Greater => {
-                let others = mem::replace(&mut b.rest, Marks::Done);
-                b.rest = unite(Marks::Next(a), others);
-                Marks::Next(b)
+                let others = b.rest.take();
+                b.rest = unite(Some(a), others);
+                Some(b)
             }
         },
     }
@@ -40,30 +39,30 @@ pub fn unify(x: Branches, y: Branches) -> Branches
     ensures { tree result ≡ unified (tree x) (tree y) }
 {
     match (x, y) {
-        (Branches::End, y) => y,
-        (x, Branches::End) => x,
-        (Branches::More(mut a), Branches::More(mut b)) => match a.operation.order(&b.operation) {
+        (None, y) => y,
+        (x, None) => x,
+        (Some(mut a), Some(mut b)) => match a.operation.order(&b.operation) {
             Ordering::Less => {
-                let rest = mem::replace(&mut a.rest, Branches::End);
-                a.rest = unify(rest, Branches::More(b));
-                Branches::More(a)
+                let rest = a.rest.take();
+                a.rest = unify(rest, Some(b));
+                Some(a)
             }
             Ordering::Equal => {
-                let marks = mem::replace(&mut a.below.marks, Marks::Done);
-                let others = mem::replace(&mut b.below.marks, Marks::Done);
-                let below = mem::replace(&mut a.below.branches, Branches::End);
-                let low = mem::replace(&mut b.below.branches, Branches::End);
-                let rest = mem::replace(&mut a.rest, Branches::End);
-                let far = mem::replace(&mut b.rest, Branches::End);
+                let marks = a.below.marks.take();
+                let others = b.below.marks.take();
+                let below = a.below.branches.take();
+                let low = b.below.branches.take();
+                let rest = a.rest.take();
+                let far = b.rest.take();
                 a.below.marks = unite(marks, others);
                 a.below.branches = unify(below, low);
                 a.rest = unify(rest, far);
-                Branches::More(a)
+                Some(a)
             }
             Ordering::Greater => {
-                let far = mem::replace(&mut b.rest, Branches::End);
-                b.rest = unify(Branches::More(a), far);
-                Branches::More(b)
+                let far = b.rest.take();
+                b.rest = unify(Some(a), far);
+                Some(b)
             }
         },
     }

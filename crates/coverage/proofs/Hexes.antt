@@ -1,7 +1,7 @@
 -- Hexadecimal text, digit by digit and byte by byte.
-use Rattle.std.proofs.Common.{◌≡◌, ℕ, zero, suc, ◌+◌, ◌-◌, ◌*◌, ◌<◌, ◌≤◌, true, ◌&&◌, List, [], ◌∷◌, ◌++◌, length, get_or, take, drop, set, sym, refl, ap, ◌∙◌, arith}
+use Rattle.std.proofs.Common.{◌≡◌, ℕ, zero, suc, ◌+◌, ◌-◌, ◌*◌, ◌<◌, ◌≤◌, Bool, true, false, cond, ◌&&◌, Some, None, List, [], ◌∷◌, ◌++◌, length, get_or, take, drop, set, sym, refl, ap, ◌∙◌, arith}
 use Rattle.std.proofs.lemmas.List.{at_drop_more, at_drop_all, take_more, take_more_set, take_all}
-use Rattle.coverage.specs.Reading.{hex_digit, hex_value, hex_digits, unhex, byte_at}
+use Rattle.coverage.specs.Reading.{hex_digit, hex_value, hex_digits, digit_read, unhex, byte_at}
 
 pub digits_more : (text : List ℕ) (i : ℕ) → i < length text → hex_digits (drop i text) ≡ hex_digit (get_or text i 0) && hex_digits (drop (i + 1) text)
 unfolding hex_digits
@@ -10,6 +10,30 @@ digits_more text i l = at_drop_more hex_digits text i 0 l
 pub digits_all : (text : List ℕ) (i : ℕ) → length text ≤ i → hex_digits (drop i text) ≡ true
 unfolding hex_digits
 digits_all text i l = at_drop_all hex_digits text i l
+
+-- a pair of digits
+pub pair_more : (text : List ℕ) (k : ℕ) → 2 * k + 1 < length text
+    → hex_digits (drop (2 * k) text)
+    ≡ hex_digit (get_or text (2 * k) 0) && (hex_digit (get_or text (2 * k + 1) 0) && hex_digits (drop (2 * (k + 1)) text))
+pair_more text k l =
+    let e : 2 * k + 1 + 1 ≡ 2 * (k + 1) = omega arith in
+    digits_more text (2 * k) (omega arith)
+    ∙ ap (λ b. hex_digit (get_or text (2 * k) 0) && b) (digits_more text (2 * k + 1) l)
+    ∙ ap (λ n. hex_digit (get_or text (2 * k) 0) && (hex_digit (get_or text (2 * k + 1) 0) && hex_digits (drop n text))) e
+
+pub read_some : (c n : ℕ) → digit_read c ≡ Some n → (hex_digit c ≡ true) × (n ≡ hex_value c)
+read_some c n e = by (hex_digit c) refl e
+  where
+    by : (t : Bool) → hex_digit c ≡ t → cond t (Some (hex_value c)) None ≡ Some n → (hex_digit c ≡ true) × (n ≡ hex_value c)
+    by true f e = (f, cc)
+    by false f e = absurd (cc)
+
+pub read_none : (c : ℕ) → digit_read c ≡ None → hex_digit c ≡ false
+read_none c e = by (hex_digit c) refl e
+  where
+    by : (t : Bool) → hex_digit c ≡ t → cond t (Some (hex_value c)) None ≡ None → hex_digit c ≡ false
+    by true f e = absurd (cc)
+    by false f e = f
 
 pub unhex_length : (text : List ℕ) (n : ℕ) → length text ≡ 2 * n → length (unhex text) ≡ n
 unfolding unhex

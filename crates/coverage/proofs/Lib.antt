@@ -1,3 +1,4 @@
 pub mod Hexes
 pub mod Inverses
 pub mod Numerals
+pub mod Pairs

@@ -10,6 +10,9 @@ hex_digit c = (nat_le 0x30 c && nat_le c 0x39) || (nat_le 0x61 c && nat_le c 0x6
 abbrev pub hex_value : ℕ → ℕ
 hex_value c = cond (nat_le 0x30 c && nat_le c 0x39) (c - 0x30) (cond (nat_le 0x61 c && nat_le c 0x66) (c - 0x61 + 10) 0)
 
+abbrev pub digit_read : ℕ → Option ℕ
+digit_read c = cond (hex_digit c) (Some (hex_value c)) None
+
 unfoldable pub hex_digits : List ℕ → Bool
 hex_digits [] = true
 hex_digits (c ∷ cs) = hex_digit c && hex_digits cs
@@ -37,9 +40,12 @@ big bs = slice_index bs 0 * 2 ^ 24 + slice_index bs 1 * 2 ^ 16 + slice_index bs 
 abbrev pub bits_read : List ℕ → Option ℕ
 bits_read text = cond (written 8 text) (Some (big (unhex text))) None
 
--- one decimal digit or more, of a number that has room in 32 bits; a plus may stand before them
-abbrev pub numeral : List ℕ → Bool
-numeral ds = nat_lt 0 (length ds) && (all_ascii_digits ds && nat_lt (digits_value 10 ds) (2 ^ 32))
+-- one decimal digit or more, of a number that has room in so many bits; a plus may stand before them
+abbrev pub numeral : ℕ → List ℕ → Bool
+numeral bits ds = nat_lt 0 (length ds) && (all_ascii_digits ds && nat_lt (digits_value 10 ds) (2 ^ bits))
 
-unfoldable pub number_read : List ℕ → Option ℕ
-number_read text = cond (numeral (without_leading_plus text)) (Some (digits_value 10 (without_leading_plus text))) None
+unfoldable pub decimal_read : ℕ → List ℕ → Option ℕ
+decimal_read bits text = cond (numeral bits (without_leading_plus text)) (Some (digits_value 10 (without_leading_plus text))) None
+
+abbrev pub number_read : List ℕ → Option ℕ
+number_read text = decimal_read 32 text

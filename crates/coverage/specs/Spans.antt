@@ -1,9 +1,9 @@
 -- What a run of headers spans.
 use Rattle.std.specs.Prelude.{ℕ, ◌+◌, ◌-◌, cond, List, Some, None, Option, ◌==◌}
+use Rattle.headers.specs.declared.chain.Chain.{Chain}
 use Rattle.headers.specs.declared.ending.Run.{Run}
 use Rattle.headers.specs.Headers.{header_at, time_of}
 use Rattle.headers.specs.Following.{run_of}
-use Rattle.coverage.specs.declared.options.Options.{Options}
 use Rattle.coverage.specs.declared.spans.Span.{Span}
 use Rattle.coverage.specs.declared.spans.Coverage.{Coverage}
 
@@ -27,5 +27,5 @@ described base run bytes = record {
   ending = run.ending;
 }
 
-abbrev pub coverage_of : Options → List ℕ → Coverage
+abbrev pub coverage_of : Chain → List ℕ → Coverage
 coverage_of o bytes = described o.base (run_of o.base o.previous o.ceiling bytes) bytes

@@ -9,6 +9,7 @@ pub mod reading;
 pub mod spans;
 
 // A law: hexadecimal text is read as the one list of bytes that is written so, and refused exactly where there is none.
+#[tactic(auto, using(crate::proofs::Inverses::unhex_inverts_hex))]
 pub fn unhex_inverts_hex() -> u8
     ensures { UnhexInvertsHex }
 {
@@ -16,6 +17,7 @@ pub fn unhex_inverts_hex() -> u8
 }
 
 // A law: the same for a number of four bytes, the high byte first.
+#[tactic(auto, using(crate::proofs::Inverses::bits_invert_hex))]
 pub fn bits_invert_hex() -> u8
     ensures { BitsInvertHex }
 {

@@ -1,99 +1,102 @@
-// The options of a file of headers: what its first header is held to be.
-ghost use Rattle.std.specs.Prelude.{◌≡◌, ℕ, ◌+◌, ◌*◌};
-ghost use Rattle.coverage.specs.Options.{with_pair, given as given_as, main_chain, parsed};
+// The options of a file of headers: what its chain is held to be.
+ghost use Rattle.std.specs.Prelude.{◌≡◌, length};
+ghost use Rattle.coverage.specs.Options.{chain_option, with_chain, with_pair, parsed_from, main_chain, parsed};
 
 use crate::reading::{bits, hash, number};
-use proof::attestations::same;
+use headers::chain::Chain;
 
-#[derive(Clone, Copy)]
-pub struct Options {
-    // the height of the first header
-    pub base: u32,
-    // the hash that it names
-    pub previous: [u8; 32],
-    // the bits of the greatest target
-    pub ceiling: u32,
+pub type Options = Chain;
+
+// The options, each for one thing that the chain is held to be.
+#[derive(Clone, Copy, Debug, PartialEq, Eq)]
+pub enum ChainOption {
+    Base,
+    Previous,
+    Ceiling,
 }
 
-// An option and its value; empty where there are none.
-#[derive(Clone, Copy)]
-pub struct Pair<'a> {
-    pub option: &'a str,
-    pub value: &'a str,
-}
-
-#[derive(Clone, Copy)]
-pub enum Wrong {
+#[derive(Clone, Copy, Debug, PartialEq, Eq)]
+pub enum Wrong<'a> {
     // an option without its value
     Odd,
     // more than three pairs
     Many,
-    // the option of this pair is unknown; pairs are counted from 1
-    Unknown(usize),
-    // the value of this pair cannot be read
-    Unreadable(usize),
+    Unknown(&'a str),
+    // its value cannot be read
+    Unreadable { option: &'a str, value: &'a str },
 }
 
 // The main chain from its first block on.
-pub fn main_chain() -> Options
+pub fn main_chain() -> Chain
     ensures { result ≡ main_chain }
 {
-    Options {
+    Chain {
         base: 0,
         previous: [0; 32],
         ceiling: 0x1d00ffff,
     }
 }
 
-// The options of count words in up to three pairs. Of an option that is given twice the later value counts.
-pub fn parse(count: usize, first: Pair, second: Pair, third: Pair) -> Result<Options, Wrong>
-    ensures { result ≡ parsed count first.entry.option.now first.entry.value.now second.entry.option.now second.entry.value.now third.entry.option.now third.entry.value.now }
+// The option that a word names.
+pub fn chain_option(word: &str) -> Option<ChainOption>
+    ensures { result ≡ chain_option word.now }
 {
-    if count > 6 {
+    match word {
+        "--base" => Some(ChainOption::Base),
+        "--previous" => Some(ChainOption::Previous),
+        "--ceiling" => Some(ChainOption::Ceiling),
+        _ => None,
+    }
+}
+
+// The chain after an option, where its value can be read.
+pub fn with_chain(option: ChainOption, value: &str, chain: Chain) -> Option<Chain>
+    ensures { result ≡ with_chain option value.now chain }
+{
+    Some(match option {
+        ChainOption::Base => Chain {
+            base: number(value)?,
+            ..chain
+        },
+        ChainOption::Previous => Chain {
+            previous: hash(value.as_bytes())?,
+            ..chain
+        },
+        ChainOption::Ceiling => Chain {
+            ceiling: bits(value.as_bytes())?,
+            ..chain
+        },
+    })
+}
+
+// The chain by up to three options, each with its value behind it. Of an option that is given twice the later value counts.
+pub fn parse<'a>(words: &[&'a str]) -> Result<Chain, Wrong<'a>>
+    ensures { result ≡ parsed words.now }
+{
+    if words.len() > 6 {
         return Err(Wrong::Many);
     }
-    if count % 2 == 1 {
+    if words.len() % 2 == 1 {
         return Err(Wrong::Odd);
     }
-    let one = given(count, 1, first, main_chain())?;
-    let two = given(count, 2, second, one)?;
-    given(count, 3, third, two)
+    read(main_chain(), words)
 }
 
-// The options after the pair at a place, if there is one.
-fn given(count: usize, place: usize, pair: Pair, options: Options) -> Result<Options, Wrong>
-    ensures { result ≡ given_as count place pair.entry.option.now pair.entry.value.now options }
+// The chain after these words.
+fn read<'a>(chain: Chain, words: &[&'a str]) -> Result<Chain, Wrong<'a>>
+    ensures { result ≡ parsed_from chain words.now }
 {
-    if count / 2 < place {
-        return Ok(options);
+    match words {
+        [option, value, rest @ ..] => read(with(option, value, chain)?, rest),
+        [_] => Err(Wrong::Odd),
+        [] => Ok(chain),
     }
-    with(place, pair, options)
 }
 
-fn with(place: usize, pair: Pair, options: Options) -> Result<Options, Wrong>
-    ensures { result ≡ with_pair place pair.entry.option.now pair.entry.value.now options }
+// The chain after a pair of words.
+fn with<'a>(option: &'a str, value: &'a str, chain: Chain) -> Result<Chain, Wrong<'a>>
+    ensures { result ≡ with_pair option.entry value.entry chain }
 {
-    let option = pair.option.as_bytes();
-    if same(option, "--base".as_bytes()) {
-        return match number(pair.value) {
-            Some(base) => Ok(Options { base, ..options }),
-            None => Err(Wrong::Unreadable(place)),
-        };
-    }
-    if same(option, "--previous".as_bytes()) {
-        return match hash(pair.value.as_bytes()) {
-            Some(previous) => Ok(Options {
-                previous,
-                ..options
-            }),
-            None => Err(Wrong::Unreadable(place)),
-        };
-    }
-    if same(option, "--ceiling".as_bytes()) {
-        return match bits(pair.value.as_bytes()) {
-            Some(ceiling) => Ok(Options { ceiling, ..options }),
-            None => Err(Wrong::Unreadable(place)),
-        };
-    }
-    Err(Wrong::Unknown(place))
+    let named = chain_option(option).ok_or(Wrong::Unknown(option))?;
+    with_chain(named, value, chain).ok_or(Wrong::Unreadable { option, value })
 }

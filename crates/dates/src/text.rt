@@ -5,6 +5,7 @@ ghost use Rattle.dates.specs.Text.{digit as digit_of, text_of};
 use crate::time::Utc;
 
 // As in 2009-01-03 18:15:05 UTC, in ASCII. Of a larger number only the last digits are written, two or for a year four.
+// Kept: the text takes no heap, and a width in a format is the least while these are exact.
 pub fn text(u: Utc) -> [u8; 23]
     ensures { result ≡ text_of u }
 {

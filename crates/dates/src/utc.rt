@@ -44,6 +44,7 @@ fn year_at(days: u16) -> Passed
 {
     let mut passed = 0;
     let mut before = 0;
+    // Kept: a `for` would need a last year, and an answer behind it that is never given.
     loop {
         let length = year_days(1970 + passed);
         if days - before < length {
@@ -63,15 +64,13 @@ fn month_at(year: u16, day: u16) -> Passed
     ensures value { result.passed ≡ month_at year day }
     ensures before { result.before ≡ days_before_month year (month_at year day) }
 {
-    let mut passed = 0;
     let mut before = 0;
-    while passed < 11 {
+    for passed in 0..11 {
         let length = month_days(year, passed as u8 + 1);
         if day - before < length {
             return Passed { passed, before };
         }
         before += length;
-        passed += 1;
     }
-    Passed { passed, before }
+    Passed { passed: 11, before }
 }

@@ -9,7 +9,7 @@ use Rattle.claim_trees.specs.Union.{union}
 use Rattle.claim_trees.specs.Gathered.{gathered}
 use Rattle.claim_trees.specs.Laws.{claims_of}
 use Rattle.claim_trees.proofs.Gathering.{holds_own, holds_one, gathered_append}
-use Rattle.claim_trees.proofs.Unions.{kept, unique_law}
+use Rattle.claim_trees.proofs.Unions.{kept}
 use Rattle.proof.specs.declared.fault.Fault.{Fault}
 use Rattle.proof.specs.declared.head.Head.{Head as Read}
 use Rattle.proof.specs.Faults.{numbered}
@@ -62,9 +62,6 @@ module _ (old : Content) (file : List ℕ) (h : Read) (r : Heads file (Ok h)) wh
   is_agreed : (b : Bool) → agrees old h.digest.now ≡ b → agrees old r.0.head.digest ≡ b
   is_agreed b a = ap (agrees old) (sym is_digest) ∙ a
 
-  pub digest_long : length h.digest.now ≡ 32
-  digest_long = ap length is_digest ∙ unique_law.digests file r.0 (length file) r.1.0
-
   pub add_differs : agrees old h.digest.now ≡ false → adding old file ≡ refused 13 h.hash
   add_differs a =
       decided old file r.0 false (small (both old r.0)) r.1.0 (is_agreed false a) refl ∙ ap (λ (n : ℕ). refused 13 n) (sym is_hash)
@@ -92,10 +89,6 @@ module _ (old : Content) (file : List ℕ) (h : Read) (r : Heads file (Ok h)) wh
     add_stops k a t e f =
         let p = err_from_is_err_and a e in
         subst (λ (z : Result (Unit {0}) Refusal). Added old file (answered z) old) (sym (p.1 ∙ ap Err p.2)) (add_trouble k t f)
-
-    pub add_large : (n : Node) → Gathers file (Ok n) → small (union (tree_in old) (node n)) ≡ false → adding old file ≡ refused 14 0
-    add_large n g f =
-        decided old file r.0 true false r.1.0 (is_agreed true a) (ap small (sym (is_tree n g.0 g.1.0 g.1.1.0)) ∙ f)
 
     pub add_granted : (n : Node) → Gathers file (Ok n) → small (union (tree_in old) (node n)) ≡ true
         → adding old file ≡ granted (about h.digest.now (union (tree_in old) (node n)))

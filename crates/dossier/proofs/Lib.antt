@@ -1,3 +1,4 @@
 pub mod Adds
 pub mod Blanks
 pub mod Outs
+pub mod Writes

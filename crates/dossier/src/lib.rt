@@ -2,7 +2,6 @@
 #![tactic(auto)]
 
 mod adding;
-pub mod held;
 pub mod phases;
 pub mod refusal;
 mod reporting;

@@ -2,6 +2,7 @@
 use Rattle.std.proofs.Common.{◌≡◌, ℕ, suc, ◌+◌, ◌-◌, ◌*◌, ◌^◌, ◌<◌, ◌≤◌, true, false, cond, ◌&&◌, eqb, ltb, leb, List, [], ◌∷◌, ◌++◌, length, get_or, take, drop, Some, None, sym, refl, ap, ◌∙◌, ⊎_elim, append_assoc, arith}
 use Rattle.std.proofs.lemmas.Bool.{lt-ltb, le-ltb, le-leb, lt-leb, eq-eqb, ne_eqb, and_from, and_right, cond-true, cond-false, cases_Bool}
 use Rattle.std.proofs.lemmas.List.{append-nil, drop-take, length-take-le, drop-drop, take_at, drop_at, length-append, length-drop, get_or-drop}
+use Rattle.std.proofs.lemmas.Slice.Eq.{bytes_eq-Decides}
 use Rattle.format.specs.declared.Kind.{Kind}
 use Rattle.format.specs.Outcome.{Outcome, got, fault, then}
 use Rattle.format.specs.Numbers.{byte_at, bytes_at, number_from, number_at, length_at, block_at}
@@ -13,7 +14,7 @@ use Rattle.format.specs.Nodes.{Claim, more_at, branch_by, node_at}
 use Rattle.format.specs.Files.{mark, file_limit, mark_at, head, head_at, Said, said, top_at, file_at}
 use Rattle.format.specs.Grammar.{Groups, final, onward, Number, Block, block, Argument, sha256, append, prepend, reverse, hexlify, Content, height, address, other, Branch, Node, attestation, operation, last, another, File, proof}
 use Rattle.format.proofs.NumberSteps.{number_more}
-use Rattle.format.proofs.Sound.{weigh, same_is, is_same, each_address, mark_long}
+use Rattle.format.proofs.Sound.{weigh, each_address, mark_long}
 use Rattle.format.proofs.NodeLaw.{node_law}
 
 -- x was read, up to an offset inside the file, and rest is left
@@ -193,23 +194,17 @@ full_whole o x file first end w f =
     let q : f.n ≡ end = omega arith in
     ap (λ z. whole first end z) f.reads ∙ (cond-true _ _ _ (eq-eqb f.n end q) ∙ ap (λ z. got x z) q)
 
-differ : same pending_tag bitcoin_tag ≡ false
-unfolding same
-differ = refl
-
 pub not_same : (xs ys : List ℕ) → (xs ≡ ys → ⊥) → same xs ys ≡ false
-not_same xs ys h = ⊎_elim (λ e. absurd (h (same_is xs ys e))) (λ e. e) (cases_Bool (same xs ys))
+not_same xs ys h = ⊎_elim (λ e. absurd (h ((bytes_eq-Decides xs ys).0 e))) (λ e. e) (cases_Bool (same xs ys))
 
 full_content : {tag payload : List ℕ} {a : Att} → Content tag payload a → (file : List ℕ) (first end : ℕ) → end ≤ length file
     → drop first (take end file) ≡ payload ++ [] → content_at tag payload file first end ≡ got a end
 full_content (height {payload = ps} {h = h} m) file first end w e =
-    cond-true _ _ _ (is_same bitcoin_tag) ∙
     ap (λ z. then z (λ h n. got (bitcoin h) n)) (full_whole _ _ file first end w (full_number ps h m (take end file) first [] e))
 full_content (address {payload = ps} {a = a} b c) file first end w e =
-    cond-false _ _ _ (let q : same pending_tag bitcoin_tag ≡ false = differ in q) ∙ (cond-true _ _ _ (is_same pending_tag) ∙
     ap (λ z. then z (λ a n. got (pending a) n))
     (full_whole _ _ file first end w (full_then _ (full_block b (take end file) first [] e) (λ n l v.
-    full_is (cond-true _ _ _ (each_address a c)) (full_here n l v)))))
+    full_is (cond-true _ _ _ (each_address a c)) (full_here n l v))))
 full_content (other {tag = tag} b p) file first end w e =
     cond-false _ _ _ (not_same tag bitcoin_tag b) ∙ cond-false _ _ _ (not_same tag pending_tag p)
 

@@ -1,9 +1,10 @@
 -- What is read is spelt by the grammar.
 use Rattle.std.proofs.Common.{◌≡◌, ℕ, zero, suc, ◌+◌, ◌-◌, ◌*◌, ◌^◌, ◌<◌, ◌≤◌, Bool, true, false, cond, ◌&&◌, eqb, ltb, leb, List, [], ◌∷◌, ◌++◌, length, get_or, take, drop, Some, None, Option, sym, refl, ap, ◌∙◌, subst, append_assoc, suc-le-suc, mul_assoc, mul_comm, add-mul, arith}
 use Rattle.std.specs.List.{AllByRecursion}
-use Rattle.std.proofs.lemmas.Bool.{ltb-true, ltb-false, leb-true, leb-false, eqb-true, eq-eqb, and_parts, and_from, both_ways, false≢true}
+use Rattle.std.proofs.lemmas.Bool.{ltb-true, ltb-false, leb-true, leb-false, eqb-true, and_parts, both_ways}
 use Rattle.std.proofs.lemmas.List.{drop_more, take-append-drop, drop-drop, length-take-le, length-take, length-drop, length-append, drop-take, drop_all, append-nil}
 use Rattle.std.proofs.ByRecursion.{Decides-by_and}
+use Rattle.std.proofs.lemmas.Slice.Eq.{bytes_eq-Decides}
 use Rattle.format.specs.declared.Kind.{Kind}
 use Rattle.format.specs.declared.Kind.TheVariants.{Sha256, Append, Prepend, Reverse, Hexlify}
 use Rattle.format.specs.Outcome.{Outcome, got, fault, then}
@@ -224,20 +225,6 @@ sound_operation depth size tag (Some kind) file at next e s =
 
 -- ---- attestations
 
-pub same_is : (xs ys : List ℕ) → same xs ys ≡ true → xs ≡ ys
-unfolding same
-same_is [] [] e = refl
-same_is [] (y ∷ ys) e = absurd (false≢true e)
-same_is (x ∷ xs) [] e = absurd (false≢true e)
-same_is (x ∷ xs) (y ∷ ys) e =
-    let p = and_parts (eqb x y) (same xs ys) e in
-    ap (λ z. z ∷ xs) (eqb-true x y p.0) ∙ ap (λ z. y ∷ z) (same_is xs ys p.1)
-
-pub is_same : (xs : List ℕ) → same xs xs ≡ true
-unfolding same
-is_same [] = refl
-is_same (x ∷ xs) = and_from (eqb x x) (same xs xs) (eq-eqb x x refl) (is_same xs)
-
 -- what was read whole ended at the payload's end
 reads_whole : {A : Type 0} (P Q : A → ℕ → Type 0) (first end : ℕ) (o : Outcome A) → Reads P o → ((x : A) (n : ℕ) → P x n → n ≡ end → Q x n)
     → Reads Q (whole first end o)
@@ -281,11 +268,9 @@ sound_address payload file first end p =
 
 -- the test on an address, byte by byte
 pub address_each : (a : List ℕ) → address_bytes a ≡ true → AllByRecursion (λ b. address_byte b ≡ true) a
-unfolding address_bytes
 address_each a e = (Decides-by_and address_byte (λ b. address_byte b ≡ true) address_bytes (λ b. ((λ q. q), (λ q. q))) refl (λ _ _. refl) a).0 e
 
 pub each_address : (a : List ℕ) → AllByRecursion (λ b. address_byte b ≡ true) a → address_bytes a ≡ true
-unfolding address_bytes
 each_address a e = (Decides-by_and address_byte (λ b. address_byte b ≡ true) address_bytes (λ b. ((λ q. q), (λ q. q))) refl (λ _ _. refl) a).1 e
 
 sound_content : (tag payload file : List ℕ) (first end : ℕ) → drop first (take end file) ≡ payload
@@ -294,15 +279,15 @@ sound_content tag payload file first end p =
     let P : Att → ℕ → Type 0 = λ a n. Held (Content tag payload a) n end in
     reads_cond P (same tag bitcoin_tag) _ _
     (λ e. reads_then (λ h n. Held (Number payload h) n end) P (height_at file first end) _ (sound_height payload file first end p)
-    (λ h n r. record { whole = r.whole; says = subst (λ t. Content t payload (bitcoin h)) (sym (same_is tag bitcoin_tag e)) (height r.says) }))
+    (λ h n r. record { whole = r.whole; says = subst (λ t. Content t payload (bitcoin h)) (sym ((bytes_eq-Decides tag bitcoin_tag).0 e)) (height r.says) }))
     (λ b. reads_cond P (same tag pending_tag) _ _
     (λ e. reads_then (λ a n. Held (Block 0 address_limit payload a × (address_bytes a ≡ true)) n end) P (address_at file first end) _ (sound_address payload file first end p)
-    (λ a n r. record { whole = r.whole; says = subst (λ t. Content t payload (pending a)) (sym (same_is tag pending_tag e)) (address r.says.0 (address_each a r.says.1)) }))
+    (λ a n r. record { whole = r.whole; says = subst (λ t. Content t payload (pending a)) (sym ((bytes_eq-Decides tag pending_tag).0 e)) (address r.says.0 (address_each a r.says.1)) }))
     (λ e. record {
       whole = refl;
       says = other
-          (λ q. both_ways (same tag bitcoin_tag) b (ap (λ z. same z bitcoin_tag) q ∙ is_same bitcoin_tag))
-          (λ q. both_ways (same tag pending_tag) e (ap (λ z. same z pending_tag) q ∙ is_same pending_tag));
+          (λ q. both_ways (same tag bitcoin_tag) b ((bytes_eq-Decides tag bitcoin_tag).1 q))
+          (λ q. both_ways (same tag pending_tag) e ((bytes_eq-Decides tag pending_tag).1 q));
     }))
 
 sound_attestation : (depth size : ℕ) (file : List ℕ) (at next : ℕ) → Spelt file at next (0 ∷ [])

@@ -1,10 +1,11 @@
 -- The items of a walk, one after another, without the bound on their number.
 use Rattle.std.proofs.Common.{◌≡◌, ℕ, zero, suc, ◌+◌, ◌-◌, ◌≤◌, List, [], ◌∷◌, length, sym, refl, ap, ◌∙◌, arith}
+use Rattle.format.specs.declared.Level.{Level}
 use Rattle.format.specs.Outcome.{Outcome, got, fault, then}
 use Rattle.format.specs.Items.{item_at}
 use Rattle.format.specs.Nodes.{more_at}
 use Rattle.format.specs.Files.{end_at}
-use Rattle.format.specs.Walks.{Level, Place, inside, behind, Step, step_at, steps_from, steps_at}
+use Rattle.format.specs.Walks.{Place, inside, behind, Step, step_at, steps_from, steps_at}
 use Rattle.format.proofs.Progress.{From, from_then, item_from}
 use Rattle.format.proofs.NodeLaw.{item_past, more_past, more_from, then_cong}
 

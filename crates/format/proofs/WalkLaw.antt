@@ -1,13 +1,14 @@
 -- The items of a walk, with their depths, determine the claims of the node.
 use Rattle.std.proofs.Common.{◌≡◌, ℕ, zero, suc, ◌+◌, ◌-◌, ◌≤◌, Bool, true, false, cond, eqb, leb, List, [], ◌∷◌, ◌++◌, map, length, take, sym, refl, ap, ◌∙◌, append_assoc, zero-le, le_refl, add-one, arith}
 use Rattle.std.proofs.lemmas.List.{append-nil, map-append, length-take-le, length-append, take-take, take_all, take-append-le}
+use Rattle.format.specs.declared.Level.{Level}
 use Rattle.format.specs.Outcome.{Outcome, got, fault, then}
 use Rattle.format.specs.Operations.{Op, op_of, result_size}
 use Rattle.format.specs.Attestations.{Att}
 use Rattle.format.specs.Items.{Piece, operation, attestation, item_at}
 use Rattle.format.specs.Nodes.{Claim, claim, under, more_at, below_by, branch_by, node_at}
 use Rattle.format.specs.Files.{Head, said, file_limit, head_at, top_at, end_at, file_at}
-use Rattle.format.specs.Walks.{Level, level, Place, inside, behind, risen, after, Step, step, step_at, steps_from, steps_at, top, walked, walk_at, path_after, claims_here, claims_of, ItemsDetermineClaims}
+use Rattle.format.specs.Walks.{level, Place, inside, behind, risen, after, Step, step, step_at, steps_from, steps_at, top, walked, walk_at, path_after, claims_here, claims_of, ItemsDetermineClaims}
 use Rattle.format.proofs.Progress.{item_from}
 use Rattle.format.proofs.NodeLaw.{item_past, more_past, more_from, node_past, node_law, node_from_lem, then_cong}
 use Rattle.format.proofs.Chains.{then_then, then_same}

@@ -1,5 +1,6 @@
 -- Attestations: what a payload under a tag says.
-use Rattle.std.specs.Prelude.{ℕ, Bool, true, false, cond, ◌&&◌, ◌||◌, List, [], ◌∷◌, take, ◌==◌, nat_le}
+use Rattle.std.specs.Prelude.{ℕ, Bool, cond, ◌&&◌, ◌||◌, List, [], ◌∷◌, take, ◌==◌, nat_le, bytes_eq}
+use Rattle.std.specs.List.{list_all}
 use Rattle.format.specs.Outcome.{Outcome, got, fault, then}
 use Rattle.format.specs.Numbers.{number_at, block_at}
 
@@ -22,12 +23,9 @@ payload_limit = 8192
 abbrev pub address_limit : ℕ
 address_limit = 1000
 
--- equal byte strings
-unfoldable pub same : List ℕ → List ℕ → Bool
-same [] [] = true
-same [] (y ∷ ys) = false
-same (x ∷ xs) [] = false
-same (x ∷ xs) (y ∷ ys) = x == y && same xs ys
+-- equal byte strings, as `==` on slices compares them
+abbrev pub same : List ℕ → List ℕ → Bool
+same = bytes_eq
 
 abbrev pub between : ℕ → ℕ → ℕ → Bool
 between lo hi b = nat_le lo b && nat_le b hi
@@ -38,9 +36,8 @@ address_byte b =
     between 0x61 0x7a b || (between 0x41 0x5a b || (between 0x30 0x39 b
     || (b == 0x2d || (b == 0x2e || (b == 0x5f || (b == 0x2f || b == 0x3a))))))
 
-unfoldable pub address_bytes : List ℕ → Bool
-address_bytes [] = true
-address_bytes (b ∷ bs) = address_byte b && address_bytes bs
+abbrev pub address_bytes : List ℕ → Bool
+address_bytes = list_all address_byte
 
 -- what was read of a payload from first to end: all of it, or fault 10 at first; a number or length of its own faults by itself
 abbrev pub whole : {A : Type 0} → ℕ → ℕ → Outcome A → Outcome A

@@ -1,15 +1,11 @@
 -- A walk over a file: one item after another, each with its depth.
 use Rattle.std.specs.Prelude.{◌≡◌, ℕ, zero, suc, ◌-◌, Bool, true, false, cond, List, [], ◌∷◌, ◌++◌, length, take, Some, None, Option, nat_le}
+use Rattle.format.specs.declared.Level.{Level}
 use Rattle.format.specs.Outcome.{Outcome, got, fault, then}
 use Rattle.format.specs.Operations.{Op, op_of, result_size}
 use Rattle.format.specs.Items.{Piece, operation, attestation, item_at}
 use Rattle.format.specs.Nodes.{Claim, claim, more_at}
 use Rattle.format.specs.Files.{Head, said, file_limit, head_at, end_at, file_at}
-
--- a node that is left for the one below it: whether items follow there, and how long its message is
-pub record Level : Type 0 where
-  pub more : Bool
-  pub size : ℕ
 
 abbrev pub level : Bool → ℕ → Level
 level more size = record { more = more; size = size }

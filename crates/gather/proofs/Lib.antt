@@ -1,4 +1,3 @@
 pub mod Larger
-pub mod Tags
 pub mod Steps
 pub mod Wholes

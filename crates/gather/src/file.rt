@@ -3,7 +3,7 @@ ghost use Rattle.format.specs.Files.{Said};
 ghost use Rattle.gather.specs.Trees.{Says, Gathers};
 ghost use Rattle.gather.specs.Readings.{Grows};
 
-use crate::node::read_node;
+use crate::node::{Above, read_node};
 use crate::scan::scan;
 use crate::trouble::Trouble;
 use claims::size::fits;
@@ -35,5 +35,6 @@ fn grow(heap: Global, file: &[u8]) -> Result<Node, Trouble>
         file,
         at: walk.offset(),
     };
-    read_node(&mut reader, heap, 0, 32)
+    let above = Above { depth: 0, size: 32 };
+    read_node(&mut reader, heap, above)
 }

@@ -1,12 +1,11 @@
 // Nodes of nothing and of one item, with bytes of their own.
-ghost use Rattle.std.specs.Prelude.{◌≡◌, ℕ, [], ◌∷◌, length, IfOk};
+ghost use Rattle.std.specs.Prelude.{◌≡◌, ℕ, [], ◌∷◌, IfOk};
 ghost use Rattle.format.specs.Operations.{op_of};
 ghost use Rattle.claim_trees.specs.Tree.{end, more, held, blank as none};
 ghost use Rattle.proof.specs.Pieces.{attested};
-ghost use Rattle.claims.specs.Models.{op, att, atts, tree, node};
-ghost use Rattle.gather.specs.Readings.{Tagged};
+ghost use Rattle.claims.specs.Models.{op, att, node};
 
-use claims::tree::{Attestation, Branch, Branches, Mark, Marks, Node, Operation};
+use claims::tree::{Attestation, Branch, Mark, Node, Operation};
 use format::Kind;
 use proof::item::Content;
 use std::alloc::{AllocError, Global};
@@ -15,14 +14,13 @@ pub(crate) fn blank() -> Node
     ensures { node result ≡ none }
 {
     Node {
-        marks: Marks::Done,
-        branches: Branches::End,
+        marks: None,
+        branches: None,
     }
 }
 
 // The node with this attestation alone.
 pub(crate) fn mark(heap: Global, content: Content) -> Result<Node, AllocError>
-    requires { Tagged content }
     ensures { IfOk result (λ n. node n ≡ held (attested content.entry ∷ []) end) }
 {
     let attestation = attestation(heap, content)?;
@@ -30,12 +28,12 @@ pub(crate) fn mark(heap: Global, content: Content) -> Result<Node, AllocError>
         heap,
         Mark {
             attestation,
-            rest: Marks::Done,
+            rest: None,
         },
     )?;
     Ok(Node {
-        marks: Marks::Next(cell),
-        branches: Branches::End,
+        marks: Some(cell),
+        branches: None,
     })
 }
 
@@ -46,7 +44,7 @@ pub(crate) fn branch(
     argument: &[u8],
     below: Node,
 ) -> Result<Node, AllocError>
-    ensures { IfOk result (λ n. node n ≡ held [] (more (op_of kind argument.now) (atts below.marks) (tree below.branches) end)) }
+    ensures { IfOk result (λ n. node n ≡ held [] (more (op_of kind argument.now) (node below).marks (node below).branches end)) }
 {
     let operation = operation(heap, kind, argument)?;
     let cell = Box::new(
@@ -54,12 +52,12 @@ pub(crate) fn branch(
         Branch {
             operation,
             below,
-            rest: Branches::End,
+            rest: None,
         },
     )?;
     Ok(Node {
-        marks: Marks::Done,
-        branches: Branches::More(cell),
+        marks: None,
+        branches: Some(cell),
     })
 }
 
@@ -76,7 +74,6 @@ fn operation(heap: Global, kind: Kind, argument: &[u8]) -> Result<Operation, All
 }
 
 fn attestation(heap: Global, content: Content) -> Result<Attestation, AllocError>
-    requires { Tagged content }
     ensures { IfOk result (λ a. att a ≡ attested content.entry) }
 {
     match content {
@@ -84,20 +81,7 @@ fn attestation(heap: Global, content: Content) -> Result<Attestation, AllocError
         Content::Bitcoin(height) => Ok(Attestation::Bitcoin(height)),
         Content::Unknown { tag, payload } => {
             let payload = payload.to_vec(heap)?;
-            Ok(Attestation::Unknown {
-                tag: eight(tag),
-                payload,
-            })
+            Ok(Attestation::Unknown { tag: *tag, payload })
         }
     }
-}
-
-// The eight bytes of a tag.
-fn eight(tag: &[u8]) -> [u8; 8]
-    requires { length tag.now ≡ 8 }
-    ensures { result ≡ tag.now }
-{
-    let mut bytes = [0; 8];
-    bytes.copy_from_slice(tag);
-    bytes
 }

@@ -37,3 +37,5 @@ lawful_rest bits m at is even ne small =
     let some : 0 < m = omega arith in
     let pos : 0 < m * 256 ^ at = mul-pos some (power_positive at) in
     lawful_from bits (even, omega arith, omega arith)
+
+pub ruleset lawfulness = (target_is, unlawful_odd, unlawful_zero, unlawful_large, lawful_rest)

@@ -1,9 +1,13 @@
 -- Numbers made of bytes, the low byte first.
-use Rattle.std.proofs.Common.{◌≡◌, ℕ, zero, suc, ◌+◌, ◌*◌, ◌/◌, ◌%◌, ◌^◌, ◌<◌, ◌≤◌, max, ltb, leb, List, [], ◌∷◌, ◌++◌, length, get_or, take, drop, set, sym, ap, ◌∙◌, ⊎_elim, mul_assoc, mul-le-mul_left, pow-suc, mul-zero, mul-one, mul-suc, mul-add, add-one, arith}
+use Rattle.std.proofs.Common.{◌≡◌, ℕ, zero, suc, ◌+◌, ◌*◌, ◌/◌, ◌%◌, ◌^◌, ◌<◌, ◌≤◌, max, leb, List, [], ◌∷◌, ◌++◌, length, get_or, take, set, reverse, replicate, sym, refl, ap, ◌∙◌, mul_assoc, mul-le-mul_left, pow-suc, mul-zero, mul-one, mul-suc, mul-add, add-one, arith}
 use native.Mathlib.Nat.{pow-succ', pow-le-pow_right}
-use Rattle.std.proofs.lemmas.List.{take_more, take_more_set, take_all, length-take-le, drop_more}
-use Rattle.std.proofs.lemmas.Bool.{le-leb, lt-leb, lt-ltb, le-ltb, cases_lt}
+use Rattle.std.proofs.lemmas.List.{take_more_set, take_all, length-take-le, length-reverse, reverse-append}
 use Rattle.std.proofs.lemmas.Bool.Decides.{nat_tests}
+use Rattle.std.specs.declared.cmp.Ordering.{Ordering}
+use Rattle.std.specs.declared.cmp.Ordering.TheVariants.{Less, Equal, Greater}
+use Rattle.std.specs.Ordering.{nat_cmp, ordering_then, is_le}
+use Rattle.std.specs.Cmp.Lexicographic.{slice_cmp}
+use Rattle.std.specs.Int.{from_le_bytes, w32}
 use Rattle.headers.specs.Targets.{little}
 
 -- one byte more, at the high end
@@ -15,11 +19,6 @@ little_push (x ∷ xs) y =
     ap (λ z. z * y) (pow-succ' 256 (length xs)) ∙ mul_assoc 256 (256 ^ length xs) y in
     omega (arith, little_push xs y)
 
-pub little_more : (xs : List ℕ) (i : ℕ) → i < length xs → little (take (i + 1) xs) ≡ little (take i xs) + 256 ^ i * get_or xs i 0
-little_more xs i h =
-    ap little (take_more xs i 0 h) ∙ little_push (take i xs) (get_or xs i 0)
-    ∙ ap (λ n. little (take i xs) + 256 ^ n * get_or xs i 0) (length-take-le i xs (omega arith))
-
 pub little_set : (xs : List ℕ) (k b : ℕ) → k < length xs → little (take (k + 1) (set xs k b)) ≡ little (take k xs) + 256 ^ k * b
 little_set xs k b h =
     ap little (take_more_set xs k b h) ∙ little_push (take k xs) b
@@ -29,25 +28,45 @@ pub power_positive : (i : ℕ) → 0 < 256 ^ i
 power_positive zero = omega arith
 power_positive (suc i) = let e = pow-succ' 256 i in omega (arith, power_positive i)
 
-pub little_below : (xs : List ℕ) (i : ℕ) → ((k : ℕ) → get_or xs k 0 < 256) → little (take i xs) < 256 ^ i
+-- numbers of as many bytes compare as their bytes do from the highest on
+then_equal : (o : Ordering) → ordering_then o Equal ≡ o
+then_equal Less = refl
+then_equal Equal = refl
+then_equal Greater = refl
+
+then_then : (o p q : Ordering) → ordering_then o (ordering_then p q) ≡ ordering_then (ordering_then o p) q
+then_then Less p q = refl
+then_then Equal p q = refl
+then_then Greater p q = refl
+
+cmp_push : (p q : List ℕ) (x y : ℕ) → length p ≡ length q
+    → slice_cmp nat_cmp (p ++ x ∷ []) (q ++ y ∷ []) ≡ ordering_then (slice_cmp nat_cmp p q) (nat_cmp x y)
+cmp_push [] [] x y e = then_equal (nat_cmp x y)
+cmp_push [] (v ∷ q) x y e = absurd (omega arith)
+cmp_push (u ∷ p) [] x y e = absurd (omega arith)
+cmp_push (u ∷ p) (v ∷ q) x y e =
+    ap (ordering_then (nat_cmp u v)) (cmp_push p q x y (omega arith)) ∙ then_then (nat_cmp u v) (slice_cmp nat_cmp p q) (nat_cmp x y)
+
+cmp_digits : (x y m n : ℕ) → x < 256 → y < 256 → nat_cmp (x + 256 * m) (y + 256 * n) ≡ ordering_then (nat_cmp m n) (nat_cmp x y)
+cmp_digits x y m n h k = grind (arith, nat_tests)
+
+pub cmp_little : (xs ys : List ℕ) → length xs ≡ length ys
+    → ((k : ℕ) → get_or xs k 0 < 256) → ((k : ℕ) → get_or ys k 0 < 256)
+    → slice_cmp nat_cmp (reverse xs) (reverse ys) ≡ nat_cmp (little xs) (little ys)
 unfolding little
-little_below xs zero h = omega arith
-little_below [] (suc i) h = power_positive (suc i)
-little_below (x ∷ xs) (suc i) h = let e = pow-succ' 256 i in omega (arith, h 0, little_below xs i (λ k. h (suc k)))
+cmp_little [] [] e h k = refl
+cmp_little [] (y ∷ ys) e h k = absurd (omega arith)
+cmp_little (x ∷ xs) [] e h k = absurd (omega arith)
+cmp_little (x ∷ xs) (y ∷ ys) e h k =
+    let n : length (reverse xs) ≡ length (reverse ys) = simp length-reverse (omega arith) in
+    ap (λ p. slice_cmp nat_cmp p (reverse (y ∷ ys))) (reverse-append (x ∷ []) xs)
+    ∙ ap (slice_cmp nat_cmp (reverse xs ++ x ∷ [])) (reverse-append (y ∷ []) ys)
+    ∙ cmp_push (reverse xs) (reverse ys) x y n
+    ∙ ap (λ o. ordering_then o (nat_cmp x y)) (cmp_little xs ys (omega arith) (λ i. h (suc i)) (λ i. k (suc i)))
+    ∙ sym (cmp_digits x y (little xs) (little ys) (h 0) (k 0))
 
--- the higher digit decides an order
-less_high : (x y b p q : ℕ) → x < b → p < q → x + b * p < y + b * q
-less_high x y b p q h l = omega (arith, mul-le-mul_left {m = suc p} {n = q} b l, mul-suc b p)
-
-pub digit_decides : (x y b p q : ℕ) → x < b → y < b → (p ≡ q → ⊥) → leb (x + b * p) (y + b * q) ≡ ltb p q
-digit_decides x y b p q h k ne =
-    ⊎_elim
-    (λ l. let s = less_high x y b p q h l in le-leb _ _ (omega arith) ∙ sym (lt-ltb p q l))
-    (λ g. lt-leb _ _ (less_high y x b q p k (omega arith)) ∙ sym (le-ltb p q g))
-    (cases_lt p q)
-
-pub digit_same : (x y k : ℕ) → leb (x + k) (y + k) ≡ leb x y
-digit_same x y k = grind (arith, nat_tests)
+pub le_of_cmp : (m n : ℕ) → is_le (nat_cmp m n) ≡ leb m n
+le_of_cmp m n = grind (arith, nat_tests)
 
 -- a number written into zero bytes from place `at` on: what is written, and what is left
 pub place_zero : (xs : List ℕ) (k at left x : ℕ) → k < length xs → k < at
@@ -80,6 +99,11 @@ place_below xs k b h l e =
     let p : 256 ^ (k + 1) ≡ 256 ^ k * 256 = ap (λ n. 256 ^ n) (add-one k) ∙ pow-suc 256 k in
     rw w (omega (arith, p, mul-le-mul_left {m = suc b} {n = 256} (256 ^ k) l, mul-suc (256 ^ k) b))
 
+pub zeros_read : (n i : ℕ) → ◌≡◌ {A = ℕ} (get_or (replicate n 0) i 0) 0
+zeros_read zero i = refl
+zeros_read (suc n) zero = refl
+zeros_read (suc n) (suc i) = zeros_read n i
+
 -- behind the last byte: something is left, or nothing
 pub no_room : (l k at left x : ℕ) → k ≡ 32 → (left ≡ 0 → ⊥) → l + 256 ^ max k at * left ≡ x → 2 ^ 256 ≤ x
 no_room l k at left x e ne is =
@@ -98,16 +122,11 @@ room xs k at left x n e z is lt =
     (omega arith, omega arith)
 
 -- four bytes
-pub little_four : (xs : List ℕ) (at : ℕ) → at + 4 ≤ length xs
-    → little (take 4 (drop at xs)) ≡ get_or xs at 0 + get_or xs (at + 1) 0 * 256 + get_or xs (at + 2) 0 * 65536 + get_or xs (at + 3) 0 * 16777216
+pub little_four : (bs : List ℕ) → length bs ≡ 4 → little bs ≡ from_le_bytes w32 bs
 unfolding little
-little_four xs at h =
-    let a = drop_more xs at 0 (omega arith) in
-    let b = drop_more xs (at + 1) 0 (omega arith) in
-    let c = drop_more xs (at + 2) 0 (omega arith) in
-    let d = drop_more xs (at + 3) 0 (omega arith) in
-    let p : at + 1 + 1 ≡ at + 2 = omega arith in
-    let q : at + 2 + 1 ≡ at + 3 = omega arith in
-    let e : drop at xs ≡ get_or xs at 0 ∷ get_or xs (at + 1) 0 ∷ get_or xs (at + 2) 0 ∷ get_or xs (at + 3) 0 ∷ drop (at + 3 + 1) xs =
-    cc in
-    ap (λ z. little (take 4 z)) e ∙ omega arith
+little_four [] e = absurd (omega arith)
+little_four (a ∷ []) e = absurd (omega arith)
+little_four (a ∷ b ∷ []) e = absurd (omega arith)
+little_four (a ∷ b ∷ c ∷ []) e = absurd (omega arith)
+little_four (a ∷ b ∷ c ∷ d ∷ []) e = omega arith
+little_four (a ∷ b ∷ c ∷ d ∷ x ∷ rest) e = absurd (omega arith)

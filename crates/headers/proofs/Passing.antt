@@ -1,11 +1,14 @@
 -- What is known of a place where a run goes on, and where it ends.
-use Rattle.std.proofs.Common.{◌≡◌, ℕ, ◌+◌, ◌-◌, ◌*◌, ◌<◌, ◌≤◌, Bool, true, false, cond, List, length, Some, None, Ok, Err, Option, Result, sym, refl, ap, ◌∙◌, add-one, arith}
-use Rattle.std.proofs.lemmas.Bool.{ltb-false, leb-false, leb-true, not-false}
+use Rattle.std.proofs.Common.{◌≡◌, ℕ, zero, suc, ◌+◌, ◌-◌, ◌*◌, ◌/◌, ◌<◌, ◌≤◌, Bool, true, false, cond, ltb, leb, List, [], length, get_or, take, drop, Some, None, Ok, Err, Option, Result, sym, refl, ap, ◌∙◌, mul-zero, mul-suc, add-one, arith}
+use Rattle.std.specs.Simd.{first_chunks}
+use Rattle.std.proofs.lemmas.List.{drop-drop}
+use Rattle.std.proofs.lemmas.Bool.{ltb-false, leb-false, leb-true, le-ltb, ne_eqb, cond-false, not-false}
 use Rattle.format.specs.Attestations.{same}
 use Rattle.headers.specs.declared.ending.Ending.{Ending}
+use Rattle.headers.specs.declared.ending.Ending.TheVariants.{Count, Height}
 use Rattle.headers.specs.Targets.{little, target_of, lawful}
 use Rattle.headers.specs.Headers.{header_at, previous_of, bits_of, hash_of, hash_before}
-use Rattle.headers.specs.Steps.{count_limit, height_limit, end_at, tested, step_or, step_at}
+use Rattle.headers.specs.Steps.{count_limit, height_limit, full_at, end_at, tested, step_or, step_at}
 use Rattle.headers.specs.Following.{first_failing, continues, reason, place_in, passes, covers, run, walked}
 use Rattle.headers.proofs.Firsts.{first_stops, first_goes}
 
@@ -71,6 +74,34 @@ passes_of base most before bytes k hash e = passes_from most before (header_at b
 pub placed : (base : ℕ) (previous : List ℕ) (most : ℕ) (bytes before : List ℕ) (k : ℕ) (r s : Result (List ℕ) Ending)
     → before ≡ hash_before previous bytes k → r ≡ step_at base most before bytes k → r ≡ s → place_in base previous most bytes k ≡ s
 placed base previous most bytes before k r s b e f = ap (λ x. step_at base most x bytes k) (sym b) ∙ (sym e ∙ f)
+
+-- the header at a place, among the whole ones
+chunk_at : (n count k : ℕ) (xs d : List ℕ) → k < count → get_or (first_chunks n count xs) k d ≡ take n (drop (n * k) xs)
+chunk_at n zero k xs d l = absurd (omega arith)
+chunk_at n (suc count) zero xs d l = ap (λ m. take n (drop m xs)) (sym (mul-zero n))
+chunk_at n (suc count) (suc k) xs d l =
+    chunk_at n count k (drop n xs) d (omega arith)
+    ∙ ap (take n) (drop-drop (n * k) n xs)
+    ∙ ap (λ m. take n (drop m xs)) (omega (arith, mul-suc n k))
+
+pub header_chunk : (bytes : List ℕ) (k : ℕ) → k < length bytes / 80
+    → get_or (first_chunks 80 (length bytes / 80) bytes) k [] ≡ header_at bytes k
+header_chunk bytes k l = chunk_at 80 (length bytes / 80) k bytes [] l
+
+-- where there is a whole header, a run ends for want of room only
+end_whole : (base size k : ℕ) → 80 * k + 80 ≤ size → end_at base size k ≡ full_at base k
+end_whole base size k l =
+    cond-false _ _ _ (ne_eqb size (80 * k) (λ e. omega arith))
+    ∙ ap (λ o. cond (leb count_limit k) (Some Count) (cond (ltb height_limit (base + k)) (Some Height) o))
+    (cond-false _ _ _ (le-ltb size (80 * k + 80) l))
+
+pub step_whole : (base most : ℕ) (before bytes : List ℕ) (headers : List (List ℕ)) (k : ℕ) (r : Result (List ℕ) Ending)
+    → headers ≡ first_chunks 80 (length bytes / 80) bytes → k < length bytes / 80
+    → r ≡ step_or (full_at base k) (tested most before (get_or headers k [])) → r ≡ step_at base most before bytes k
+step_whole base most before bytes headers k r h l e =
+    let at : get_or headers k [] ≡ header_at bytes k = ap (λ hs. get_or hs k []) h ∙ header_chunk bytes k l in
+    e ∙ ap (λ x. step_or (full_at base k) (tested most before x)) at
+    ∙ ap (λ o. step_or o (tested most before (header_at bytes k))) (sym (end_whole base (length bytes) k (omega arith)))
 
 -- one header further
 pub before_more : (previous bytes : List ℕ) (k : ℕ) → hash_before previous bytes (k + 1) ≡ hash_of (header_at bytes k)

@@ -13,6 +13,12 @@ count_limit = 65536
 abbrev pub height_limit : ℕ
 height_limit = 4294967295
 
+-- a run has no header at place k, however many there are
+abbrev pub full_at : ℕ → ℕ → Option Ending
+full_at base k =
+    cond (nat_le count_limit k) (Some Count)
+    (cond (nat_lt height_limit (base + k)) (Some Height) None)
+
 -- no header of a run stands at place k, by the number of the bytes alone
 abbrev pub end_at : ℕ → ℕ → ℕ → Option Ending
 end_at base size k =

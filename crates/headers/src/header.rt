@@ -9,44 +9,39 @@ use sha256::sha256;
 pub const SIZE: usize = 80;
 
 // The header at place k, which is whole.
-pub fn nth(bytes: &[u8], k: usize) -> &[u8]
+pub fn nth(bytes: &[u8], k: usize) -> &[u8; SIZE]
     requires { 80 * k + 80 ≤ length bytes.now }
-    ensures long { length result.now ≡ 80 }
-    ensures value { result.now ≡ header_at bytes.now k }
+    ensures { result.now ≡ header_at bytes.now k }
 {
-    part(bytes, SIZE * k, SIZE)
+    part(bytes, SIZE * k)
 }
 
 // The hash of the header before.
-pub fn previous(header: &[u8]) -> &[u8]
-    requires { length header.now ≡ 80 }
+pub fn previous(header: &[u8; SIZE]) -> &[u8; 32]
     ensures { result.now ≡ previous_of header.now }
 {
-    &header[4..36]
+    part(header, 4)
 }
 
 // The root of what the block holds.
-pub fn root(header: &[u8]) -> &[u8]
-    requires { length header.now ≡ 80 }
+pub fn root(header: &[u8; SIZE]) -> &[u8; 32]
     ensures { result.now ≡ root_of header.now }
 {
-    &header[36..68]
+    part(header, 36)
 }
 
 // The time, in seconds since the beginning of 1970.
-pub fn time(header: &[u8]) -> u32
-    requires { length header.now ≡ 80 }
+pub fn time(header: &[u8; SIZE]) -> u32
     ensures { result ≡ time_of header.now }
 {
-    word(header, 68)
+    number(part(header, 68))
 }
 
 // The bits that mean the target.
-pub fn bits(header: &[u8]) -> u32
-    requires { length header.now ≡ 80 }
+pub fn bits(header: &[u8; SIZE]) -> u32
     ensures { result ≡ bits_of header.now }
 {
-    word(header, 72)
+    number(part(header, 72))
 }
 
 // The header's own hash, by which the next one names it.
@@ -57,19 +52,17 @@ pub fn hash(header: &[u8]) -> [u8; 32]
     sha256(&inner)
 }
 
-// The n bytes from place at on.
-fn part(bytes: &[u8], at: usize, n: usize) -> &[u8]
-    requires { at + n ≤ length bytes.now }
-    ensures long { length result.now ≡ n }
-    ensures value { result.now ≡ take n (drop at bytes.now) }
+// The N bytes from place at on.
+fn part<const N: usize>(bytes: &[u8], at: usize) -> &[u8; N]
+    requires { at + N ≤ length bytes.now }
+    ensures { result.now ≡ take N (drop at bytes.now) }
 {
-    &bytes[at..at + n]
+    bytes[at..].first_chunk().unwrap()
 }
 
 // Four bytes as a number, the low byte first.
-fn word(bytes: &[u8], at: usize) -> u32
-    requires { at + 4 ≤ length bytes.now }
-    ensures { result ≡ little (take 4 (drop at bytes.now)) }
+fn number(bytes: &[u8; 4]) -> u32
+    ensures { result ≡ little bytes.now }
 {
-    u32::from_le_bytes([bytes[at], bytes[at + 1], bytes[at + 2], bytes[at + 3]])
+    u32::from_le_bytes(*bytes)
 }

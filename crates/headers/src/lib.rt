@@ -3,12 +3,14 @@
 
 ghost use Rattle.headers.specs.Runs.{CoversTheLongestRun, MoreBytesExtendTheRun};
 
+pub mod chain;
 pub mod ending;
 pub mod header;
 pub mod run;
 pub mod targets;
 
 // A law: what is covered is the longest run from the first header on, in which every header is good.
+#[tactic(auto, using(crate::proofs::Longest::covers_the_longest_run))]
 pub fn covers_the_longest_run() -> u8
     ensures { CoversTheLongestRun }
 {

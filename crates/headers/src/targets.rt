@@ -1,49 +1,27 @@
 // The target that the bits of a header mean, and the comparison with it. Numbers of 32 bytes have the low byte first.
-ghost use Rattle.std.specs.Prelude.{◌≡◌, ℕ, ◌-◌, ◌*◌, ◌/◌, ◌%◌, ◌^◌, ◌<◌, ◌≤◌, true, false, length, MatchOption, ◌≢◌, nat_le};
+ghost use Rattle.std.specs.Prelude.{◌≡◌, ℕ, ◌-◌, ◌*◌, ◌/◌, ◌%◌, ◌^◌, ◌<◌, ◌≤◌, true, false, MatchOption, ◌≢◌, nat_le};
 ghost use Rattle.headers.specs.Targets.{little, mantissa, exponent, target_of, lawful, Means};
 
 // Whether the number in a is at most the one in b.
-pub(crate) fn at_most(a: &[u8], b: &[u8]) -> bool
-    requires { length a.now ≡ length b.now }
+pub(crate) fn at_most(a: &[u8; 32], b: &[u8; 32]) -> bool
     ensures { result ≡ nat_le (little a.now) (little b.now) }
 {
-    // from the low byte up: the last difference decides
-    let mut least = true;
-    for i in 0..a.len() {
-        if a[i] != b[i] {
-            least = a[i] < b[i];
-        }
-    }
-    least
+    // the highest byte that differs decides
+    a.iter().rev().cmp(b.iter().rev()).is_le()
 }
 
 // The target, where the bits are lawful.
+#[tactic(auto, using(crate::proofs::Lawfulness::lawfulness))]
 pub fn target(bits: u32) -> Option<[u8; 32]>
     ensures { Means bits result }
 {
     let m = whole(bits);
     let e = (bits >> 24) as usize;
-    let at = if e < 3 { 0 } else { e - 3 };
-    let _told = told(bits, m, at);
+    let at = e.saturating_sub(3);
     if bits / 0x80_0000 % 2 != 0 || m == 0 {
         return None;
     }
-    match placed(m, at) {
-        Some(bytes) => Some(bytes),
-        None => None,
-    }
-}
-
-// When bits are lawful, by the whole part of their mantissa and the place of its low byte: facts for the proof of `target`.
-fn told(bits: u32, m: u32, at: usize) -> u8
-    requires { (m ≡ mantissa bits / 256 ^ (3 - exponent bits)) × (at ≡ exponent bits - 3) }
-    ensures is { m * 256 ^ at ≡ target_of bits }
-    ensures odd { (bits / 2 ^ 23 % 2 ≢ 0) → lawful bits ≡ false }
-    ensures zero { m ≡ 0 → lawful bits ≡ false }
-    ensures large { 2 ^ 256 ≤ m * 256 ^ at → lawful bits ≡ false }
-    ensures rest { bits / 2 ^ 23 % 2 ≡ 0 → (m ≢ 0) → m * 256 ^ at < 2 ^ 256 → lawful bits ≡ true }
-{
-    0
+    placed(m, at)
 }
 
 // The low 23 bits, without the bytes that a small exponent makes a fraction.
@@ -65,12 +43,10 @@ fn placed(m: u32, at: usize) -> Option<[u8; 32]>
 {
     let mut bytes = [0; 32];
     let mut left = m;
-    for k in 0..32 {
-        if k < at {
-            bytes[k] = 0;
-        } else {
-            bytes[k] = (left % 256) as u8;
-            left = left / 256;
+    for (k, byte) in bytes.iter_mut().enumerate() {
+        if k >= at {
+            *byte = (left % 256) as u8;
+            left /= 256;
         }
     }
     if left == 0 { Some(bytes) } else { None }

@@ -5,7 +5,7 @@ ghost use Rattle.std.specs.Prelude.{◌≡◌, ◌==◌, cond, length, replicate
 ghost use Rattle.headers.specs.Following.{run_of};
 ghost use Rattle.sha256.specs.Sha256.{sha256 as digest_of};
 
-use headers::run::follow;
+use headers::chain::Chain;
 use sha256::sha256;
 
 // How many headers are covered from height 0 on, behind a previous hash of zeros.
@@ -13,8 +13,12 @@ use sha256::sha256;
 pub extern "C" fn headers_covered(ceiling: u32, bytes: &[u8]) -> usize
     ensures { result ≡ (run_of 0 (replicate 32 0) ceiling bytes.now).covered }
 {
-    let run = follow(0, [0; 32], ceiling, bytes);
-    run.covered
+    let chain = Chain {
+        base: 0,
+        previous: [0; 32],
+        ceiling,
+    };
+    chain.follow(bytes).covered
 }
 
 // Writes the SHA-256 of the SHA-256 of `message` to `out` and answers true, or, where `out` isn't 32 bytes long, writes nothing and

@@ -7,19 +7,22 @@ use Rattle.replay.specs.Areas.{left}
 use Rattle.judge.specs.Meaning.{Meaning}
 use Rattle.runs.specs.Contents.{Content, blank, Dossier, opened, settled, content}
 use Rattle.runs.specs.Answers.{Answer, granted}
+use Rattle.runs.specs.declared.report.Row.{Row}
+use Rattle.runs.specs.declared.report.Tally.{Tally}
 use Rattle.runs.specs.Adding.{Added}
+use Rattle.runs.specs.Reports.{Read, Tallied}
 use Rattle.runs.specs.Writing.{Wrote}
 use Rattle.runs.specs.Sheets.{Listed as Listed-sheet}
-use Rattle.runs.specs.Runs.{Event, add, Run, begun, then}
+use Rattle.runs.specs.Runs.{Event, add, row, tally, Step, Run, begun, then}
 use Rattle.runs.specs.Law.{Refusal as Refusal-answer}
 use Rattle.runs.proofs.Refusing.{refusals}
 use Rattle.dossier.specs.declared.refusal.Refusal.{Refusal}
-use Rattle.dossier.specs.Refusals.{place_of, refused_at, refusal}
+use Rattle.dossier.specs.Refusals.{place_of, refused_at, refusal, answered}
 use Rattle.history.specs.declared.call.Call.{Call}
 use Rattle.history.specs.declared.call.Call.TheVariants as call
 use Rattle.history.specs.declared.entry.Entry.{Entry}
-use Rattle.history.specs.declared.entry.Entry.TheVariants.{Wrote as Wrote-entry, Listed as Listed-entry}
-use Rattle.history.specs.Scripts.{an_add, a_settle, a_reopen, a_write, no_write, a_row, a_tally, a_sheet, no_sheet, FileRecorded, SheetRecorded, Refuses, One, taken, not_taken, Script, start, more, skip}
+use Rattle.history.specs.declared.entry.Entry.TheVariants.{Wrote as Wrote-entry, Read as Read-entry, Tallied as Tallied-entry, Listed as Listed-entry}
+use Rattle.history.specs.Scripts.{zeros, an_add, a_settle, a_reopen, a_write, no_write, a_row, a_tally, a_sheet, no_sheet, FileRecorded, SheetRecorded, Refuses, One, taken, not_taken, Script, start, more, skip}
 
 -- ---- calls that are not taken
 
@@ -81,6 +84,29 @@ pub sheet_lent : (s : Content) (m : Meaning) (out lent work spare a b : List ℕ
     → Listed-sheet s m out work r a b → Listed-sheet s m lent spare r a b
 sheet_lent s m out lent work spare a b r p q l =
     subst (λ (z : List ℕ). Listed-sheet s m lent z r a b) q (subst (λ (z : List ℕ). Listed-sheet s m z work r a b) p l)
+
+-- an area that was lent full of zeros
+row_lent : (s : Content) (m : Meaning) (k : ℕ) (lent spare : List ℕ) (r : Answer Row) (after : List ℕ) → lent ≡ spare
+    → Read s m k lent r after → Read s m k spare r (left spare)
+row_lent s m k lent spare r after e l = subst (λ (z : List ℕ). Read s m k z r (left z)) e (record { answer = l.answer; work = refl })
+
+tally_lent : (s : Content) (m : Meaning) (lent spare : List ℕ) (r : Answer Tally) (after : List ℕ) → lent ≡ spare
+    → Tallied s m lent r after → Tallied s m spare r (left spare)
+tally_lent s m lent spare r after e l = subst (λ (z : List ℕ). Tallied s m z r (left z)) e (record { answer = l.answer; work = refl })
+
+pub one_row : {J : Type 0} {means : J → Meaning} (s : Content) (j : Bor J) (k work : ℕ) (r : Result Row Refusal) (lent after : List ℕ) → lent ≡ zeros work
+    → Read s (means j.now) k lent (answered r) after → One means (settled s) (call.Row j k work) (Read-entry r) (settled s)
+one_row {J} {means} s j k work r lent after e l =
+    let step : Step (settled s) (row (means j.now) k (zeros work) (answered r) (left (zeros work))) (settled s)
+    = (row_lent s (means j.now) k lent (zeros work) (answered r) after e l, refl) in
+    taken _ a_row step
+
+pub one_tally : {J : Type 0} {means : J → Meaning} (s : Content) (j : Bor J) (work : ℕ) (r : Result Tally Refusal) (lent after : List ℕ) → lent ≡ zeros work
+    → Tallied s (means j.now) lent (answered r) after → One means (settled s) (call.Tally j work) (Tallied-entry r) (settled s)
+one_tally {J} {means} s j work r lent after e l =
+    let step : Step (settled s) (tally (means j.now) (zeros work) (answered r) (left (zeros work))) (settled s)
+    = (tally_lent s (means j.now) lent (zeros work) (answered r) after e l, refl) in
+    taken _ a_tally step
 
 pub one_write : {J : Type 0} {means : J → Meaning} (s : Dossier) (room : ℕ) (w : Result (Vec ℕ Global) Refusal) → FileRecorded s room w
     → One means s (call.Write room) (Wrote-entry w) s

@@ -1,6 +1,7 @@
 // A call, with what it is given.
 
 // Areas are given by their size: they are lent full of zeros.
+// Kept: an enum that two functions match, since a record says which call was made, and a closure in its place could not be recorded.
 #[derive(Clone, Copy)]
 pub enum Call<'a, J> {
     Add(&'a [u8]),

@@ -2,6 +2,7 @@
 use dossier::refusal::Refusal;
 use runs::report::{Row, Tally};
 
+// Kept: an enum, as an answer's type differs from call to call, and entries of all calls stand in one list.
 #[derive(Drop)]
 pub enum Entry {
     Added(Result<(), Refusal>),

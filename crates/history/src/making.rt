@@ -1,8 +1,5 @@
 // Calls made one after another on a new dossier, each recorded.
 ghost use Rattle.std.specs.Prelude.{◌≡◌, IfOk};
-ghost use Rattle.replay.specs.Areas.{left};
-ghost use Rattle.runs.specs.Runs.{Step, row as row_event, tally as tally_event};
-ghost use Rattle.dossier.specs.Refusals.{answered};
 ghost use Rattle.dossier.specs.Phases.{open_dossier, settled_dossier};
 ghost use Rattle.history.specs.Scripts.{phase_dossier, zeros as zero_bytes, FileRecorded, SheetRecorded, One, Recorded};
 
@@ -12,7 +9,6 @@ use crate::phase::Phase;
 use dossier::phases::{Open, Settled};
 use dossier::refusal::Refusal;
 use judge::judge::Judge;
-use runs::report::{Row, Tally};
 use std::alloc::{AllocError, Global};
 
 // An area to lend.
@@ -39,31 +35,7 @@ fn written(
     }
 }
 
-fn row_read<J: Judge>(
-    heap: Global,
-    dossier: &Settled,
-    judge: &J,
-    k: usize,
-    work: usize,
-) -> Result<Result<Row, Refusal>, AllocError>
-    ensures { IfOk result (λ w. Step (settled_dossier dossier.now) (row_event (J.meaning judge.now) k (zero_bytes work) (answered w) (left (zero_bytes work))) (settled_dossier dossier.now)) }
-{
-    let mut area = zeros(heap, work)?;
-    Ok(dossier.row(judge, k, area.as_mut_slice()))
-}
-
-fn tallied<J: Judge>(
-    heap: Global,
-    dossier: &Settled,
-    judge: &J,
-    work: usize,
-) -> Result<Result<Tally, Refusal>, AllocError>
-    ensures { IfOk result (λ w. Step (settled_dossier dossier.now) (tally_event (J.meaning judge.now) (zero_bytes work) (answered w) (left (zero_bytes work))) (settled_dossier dossier.now)) }
-{
-    let mut area = zeros(heap, work)?;
-    Ok(dossier.tally(judge, area.as_mut_slice()))
-}
-
+// Kept: as the file above; a closure that cuts the area and hands it on by value is no plainer than these arms.
 fn listed<J: Judge>(
     heap: Global,
     dossier: &Settled,
@@ -113,11 +85,13 @@ fn on_settled<J: Judge>(
             Ok((Phase::Settled(dossier), Entry::Wrote(file)))
         }
         Call::Row { judge, k, work } => {
-            let row = row_read(heap, &dossier, *judge, *k, *work)?;
+            let mut area = zeros(heap, *work)?;
+            let row = dossier.row(*judge, *k, area.as_mut_slice());
             Ok((Phase::Settled(dossier), Entry::Read(row)))
         }
         Call::Tally { judge, work } => {
-            let tally = tallied(heap, &dossier, *judge, *work)?;
+            let mut area = zeros(heap, *work)?;
+            let tally = dossier.tally(*judge, area.as_mut_slice());
             Ok((Phase::Settled(dossier), Entry::Tallied(tally)))
         }
         Call::Sheet { judge, room, work } => {

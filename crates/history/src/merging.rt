@@ -11,9 +11,9 @@ pub fn gather_pieces(heap: Global, pieces: &[Piece<'_>]) -> Result<Open, Stopped
     ensures { Gathering (files_of pieces.now) result }
 {
     let mut dossier = Open::new();
-    for i in 0..pieces.len() {
-        if let Err(refusal) = dossier.add(heap, pieces[i].file) {
-            return Err(Stopped::Piece { place: i, refusal });
+    for (place, piece) in pieces.iter().enumerate() {
+        if let Err(refusal) = dossier.add(heap, piece.file) {
+            return Err(Stopped::Piece { place, refusal });
         }
     }
     Ok(dossier)
@@ -32,6 +32,7 @@ pub fn merge<J: Judge>(
 {
     let open = gather_pieces(heap, pieces)?;
     let dossier = open.settle();
+    // Kept: two matches; the proof of `map_err(Stopped::Tally)?` did not close (tried).
     let tally = match dossier.tally(judge, work) {
         Ok(tally) => tally,
         Err(refusal) => return Err(Stopped::Tally(refusal)),

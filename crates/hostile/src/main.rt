@@ -69,11 +69,7 @@ fn say_deep(rt: &HostRuntime) -> anyhow::Result<()> {
     Ok(())
 }
 
-fn run(rt: &HostRuntime) -> anyhow::Result<()> {
-    say_flat(rt)?;
-    say_deep(rt)
-}
-
 fn main(rt: HostRuntime) -> anyhow::Result<()> {
-    run(&rt)
+    say_flat(&rt)?;
+    say_deep(&rt)
 }

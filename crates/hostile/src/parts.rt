@@ -16,26 +16,39 @@ pub fn head(heap: Global) -> Result<Vec<u8>, AllocError> {
 }
 
 // An attestation under a tag of its own for each number, with an empty payload: 10 bytes.
-pub fn leaf(file: &mut Vec<u8>, n: usize) -> Result<(), AllocError> {
+pub fn leaf(file: &mut Vec<u8>, n: u16) -> Result<(), AllocError> {
     file.extend_from_slice(&[0x00, 0x11, 0x22, 0x33, 0x44, 0x55, 0x66])?;
-    file.extend_from_slice(&two(n))?;
+    file.extend_from_slice(&n.to_be_bytes())?;
     file.extend_from_slice(&[0x00])
 }
 
 // An append with an argument of its own for each number: 4 bytes.
-pub fn append(file: &mut Vec<u8>, n: usize) -> Result<(), AllocError> {
+pub fn append(file: &mut Vec<u8>, n: u16) -> Result<(), AllocError> {
     file.extend_from_slice(&[0xf0, 0x02])?;
-    file.extend_from_slice(&two(n))
+    file.extend_from_slice(&n.to_be_bytes())
 }
 
 // As many operations, each under the one before.
-pub fn deeper(file: &mut Vec<u8>, n: usize) -> Result<(), AllocError> {
+pub fn deeper(file: &mut Vec<u8>, n: u16) -> Result<(), AllocError> {
     for _ in 0..n {
         file.extend_from_slice(&SHA256)?;
     }
     Ok(())
 }
 
-fn two(n: usize) -> [u8; 2] {
-    [(n / 256 % 256) as u8, (n % 256) as u8]
+// The items of a node, each as it is written for its number: ff before every one but the last.
+pub fn node<F: Fn(&mut Vec<u8>, u16) -> Result<(), AllocError>>(
+    file: &mut Vec<u8>,
+    n: u16,
+    item: F,
+) -> Result<(), AllocError>
+    requires { F.IsAlwaysCallable item }
+{
+    for i in 0..n {
+        if i + 1 < n {
+            file.extend_from_slice(&MORE)?;
+        }
+        item(file, i)?;
+    }
+    Ok(())
 }

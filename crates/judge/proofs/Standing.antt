@@ -1,13 +1,15 @@
 -- The covered headers alone mean as much as all the bytes.
-use Rattle.std.proofs.Common.{◌≡◌, ℕ, ◌+◌, ◌-◌, ◌*◌, ◌/◌, ◌<◌, ◌≤◌, cond, ◌&&◌, ltb, leb, List, length, take, drop, sym, refl, ap, ◌∙◌, ⊎_elim, arith}
+use Rattle.std.proofs.Common.{◌≡◌, ℕ, ◌+◌, ◌-◌, ◌*◌, ◌/◌, ◌<◌, ◌≤◌, cond, ◌&&◌, ltb, leb, List, [], length, get_or, take, drop, sym, refl, ap, ◌∙◌, ⊎_elim, arith}
 use mathlib.Core.Path.{fun_ext}
+use Rattle.std.specs.Simd.{first_chunks}
 use Rattle.std.proofs.lemmas.List.{length-take-le, take-take, drop-take}
-use Rattle.std.proofs.lemmas.Bool.{and_parts, ltb-true, cases_Bool, cases_lt, cond-true, cond-false}
+use Rattle.std.proofs.lemmas.Bool.{and_parts, and_from, le-leb, lt-ltb, ltb-true, cases_Bool, cases_lt, cond-true, cond-false}
 use Rattle.format.specs.Outcome.{Outcome, got, fault}
 use Rattle.format.specs.Attestations.{same, bitcoin_tag, height_at}
 use Rattle.headers.specs.Headers.{header_at, root_of, time_of}
 use Rattle.headers.specs.Following.{covered_by}
 use Rattle.headers.proofs.Longest.{covered_good}
+use Rattle.headers.proofs.Passing.{header_chunk}
 use Rattle.judge.specs.Meaning.{Ruling, confirmed, rejected, ruled_by, Meaning}
 use Rattle.judge.specs.HeaderRules.{ruled_at, standing, header_meaning}
 
@@ -27,8 +29,24 @@ header_of_front bytes n k l =
     ∙ ap (take 80) (drop-take (80 * k) (80 * n - 80 * k) bytes)
     ∙ take-take 80 (80 * n - 80 * k) (drop (80 * k) bytes) (omega arith)
 
-abbrev against : List ℕ → List ℕ → Ruling
+abbrev pub against : List ℕ → List ℕ → Ruling
 against message header = cond (same message (root_of header)) (confirmed (time_of header)) rejected
+
+-- a height that is covered is ruled by its header
+ruled_here : (base n : ℕ) (bytes message header : List ℕ) (height place : ℕ)
+    → base ≤ height → place ≡ height - base → place < n → header ≡ header_at bytes place
+    → ruled_at base n bytes message height ≡ against message header
+ruled_here base n bytes message header height place b p l h =
+    cond-true _ _ _ (and_from _ _ (le-leb base height b) (lt-ltb (height - base) n (omega arith)))
+    ∙ ap (λ k. against message (header_at bytes k)) (sym p) ∙ ap (against message) (sym h)
+
+pub ruled_among : (base : ℕ) (bytes message header : List ℕ) (headers : List (List ℕ)) (height place : ℕ)
+    → base ≤ height → place ≡ height - base
+    → headers ≡ first_chunks 80 (length bytes / 80) bytes → place < length bytes / 80 → header ≡ get_or headers place []
+    → ruled_at base (length bytes / 80) bytes message height ≡ against message header
+ruled_among base bytes message header headers height place b p h l e =
+    ruled_here base (length bytes / 80) bytes message header height place b p l
+    (e ∙ ap (λ hs. get_or hs place []) h ∙ header_chunk bytes place l)
 
 ruled_front : (base n m : ℕ) (front bytes message : List ℕ) (height : ℕ)
     → m ≡ n → ((k : ℕ) → k < n → header_at front k ≡ header_at bytes k)

@@ -3,5 +3,4 @@ pub mod HeaderRules
 pub mod Lasting
 pub mod Listing
 pub mod CalendarRules
-pub mod Working
 pub mod Choosing

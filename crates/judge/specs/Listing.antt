@@ -1,21 +1,15 @@
 -- The addresses that a text lists, one a line.
-use Rattle.std.specs.Prelude.{◌≡◌, ℕ, ◌<◌, Bool, true, false, cond, not, ◌&&◌, ◌||◌, List, [], ◌∷◌, ◌++◌, length, Decides, ◌==◌, ◌≢◌, slice_index, slice_index_or}
+use Rattle.std.specs.Prelude.{◌≡◌, ℕ, ◌<◌, Bool, true, false, not, ◌&&◌, List, [], ◌∷◌, length, Decides, ◌==◌, ◌≢◌, slice_index, slice_index_or}
+use Rattle.std.specs.List.{slice_split, list_any, join_with_byte}
 use Rattle.format.specs.Attestations.{same}
-
--- a line that begins with one byte more
-abbrev pub longer : ℕ → List (List ℕ) → List (List ℕ)
-longer b [] = (b ∷ []) ∷ []
-longer b (line ∷ rest) = (b ∷ line) ∷ rest
 
 -- the lines of a text: each is ended by 0a, or by the end
 unfoldable pub lines : List ℕ → List (List ℕ)
-lines [] = [] ∷ []
-lines (b ∷ text) = cond (b == 0x0a) ([] ∷ lines text) (longer b (lines text))
+lines text = slice_split (λ b. b == 0x0a) text
 
 -- whether some line equals the address
 unfoldable pub some_line : List (List ℕ) → List ℕ → Bool
-some_line [] address = false
-some_line (line ∷ rest) address = same line address || some_line rest address
+some_line lines address = list_any (λ line. same line address) lines
 
 abbrev pub empty : List ℕ → Bool
 empty [] = true
@@ -34,10 +28,8 @@ abbrev pub ListedMeansALine : Type 0
 ListedMeansALine = (text address : List ℕ) → Decides (listed text address) (Listed text address)
 
 -- lines with 0a between them
-unfoldable pub joined : List (List ℕ) → List ℕ
-joined [] = []
-joined (line ∷ []) = line
-joined (line ∷ (next ∷ rest)) = line ++ (0x0a ∷ joined (next ∷ rest))
+abbrev pub joined : List (List ℕ) → List ℕ
+joined lines = join_with_byte 0x0a lines
 
 abbrev pub LinesSplitTheText : Type 0
 LinesSplitTheText =

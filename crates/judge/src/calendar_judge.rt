@@ -5,7 +5,7 @@ ghost use Rattle.judge.specs.Listing.{lines, some_line, listed};
 
 use crate::judge::Judge;
 use crate::verdict::Verdict;
-use proof::attestations::{address, is_pending, same};
+use proof::attestations::{address, is_pending};
 
 // What ends a line.
 const LINE_END: u8 = 0x0a;
@@ -27,26 +27,14 @@ impl<'a> CalendarJudge<'a> {
 fn lists(text: &[u8], address: &[u8]) -> bool
     ensures { result ≡ listed text.now address.now }
 {
-    if address.is_empty() {
-        return false;
-    }
-    has_line(text, address)
+    !address.is_empty() && has_line(text, address)
 }
 
 // Whether some line of the text equals the address.
 fn has_line(text: &[u8], address: &[u8]) -> bool
     ensures { result ≡ some_line (lines text.now) address.now }
 {
-    let mut start = 0;
-    for i in 0..text.len() {
-        if text[i] == LINE_END {
-            if same(&text[start..i], address) {
-                return true;
-            }
-            start = i + 1;
-        }
-    }
-    same(&text[start..text.len()], address)
+    text.split(|b| *b == LINE_END).any(|line| line == address)
 }
 
 impl<'a> Judge for CalendarJudge<'a> {
@@ -61,14 +49,8 @@ impl<'a> Judge for CalendarJudge<'a> {
             return Verdict::Foreign;
         }
         match address(payload, 0, payload.len()) {
-            Ok(address) => {
-                if lists(self.text, address) {
-                    Verdict::Waiting
-                } else {
-                    Verdict::Rejected
-                }
-            }
-            Err(_) => Verdict::Rejected,
+            Ok(address) if lists(self.text, address) => Verdict::Waiting,
+            _ => Verdict::Rejected,
         }
     }
 }

@@ -6,10 +6,10 @@ ghost use Rattle.judge.specs.HeaderRules.{ruled_at, standing, header_meaning};
 
 use crate::judge::Judge;
 use crate::verdict::Verdict;
+use headers::chain::Chain;
 use headers::ending::Run;
 use headers::header;
-use headers::run::follow;
-use proof::attestations::{height, is_bitcoin, same};
+use proof::attestations::{height, is_bitcoin};
 
 // The height of the first header, the headers that are covered, and how the run went that covers them: it is worked out
 // once, when the judge is made.
@@ -21,15 +21,18 @@ pub struct HeaderJudge<'a> {
 }
 
 impl<'a> HeaderJudge<'a> {
-    // The first header in bytes has the height base and names the hash previous, and no target is above the ceiling's.
-    pub fn new(base: u32, previous: [u8; 32], ceiling: u32, bytes: &'a [u8]) -> HeaderJudge<'a>
-        ensures means { standing result.base result.covered.now ≡ header_meaning base previous ceiling bytes.now }
-        ensures run { result.run ≡ run_of base previous ceiling bytes.now }
+    // The headers in bytes, held to be of the chain.
+    pub fn new(chain: &Chain, bytes: &'a [u8]) -> HeaderJudge<'a>
+        ensures means { standing result.base result.covered.now ≡ header_meaning chain.now.base chain.now.previous chain.now.ceiling bytes.now }
+        ensures run { result.run ≡ run_of chain.now.base chain.now.previous chain.now.ceiling bytes.now }
     {
-        let run = follow(base, previous, ceiling, bytes);
-        let _within = within(base, previous, ceiling, bytes, run);
-        let covered = &bytes[0..header::SIZE * run.covered];
-        HeaderJudge { base, covered, run }
+        let run = chain.follow(bytes);
+        let covered = &bytes[..header::SIZE * run.covered];
+        HeaderJudge {
+            base: chain.base,
+            covered,
+            run,
+        }
     }
 
     // How many headers are covered, and why no more.
@@ -43,28 +46,19 @@ impl<'a> HeaderJudge<'a> {
     fn at(&self, height: u32, message: &[u8]) -> Verdict
         ensures { result ≡ spoken (ruled_at self.now.base (length self.now.covered.now / 80) self.now.covered.now message.now height) }
     {
-        if height < self.base
-            || (height - self.base) as usize >= self.covered.len() / header::SIZE
-        {
+        let (headers, _rest) = self.covered.as_chunks();
+        let Some(place) = height.checked_sub(self.base) else {
             return Verdict::Waiting;
-        }
-        let header = header::nth(self.covered, (height - self.base) as usize);
-        if same(message, header::root(header)) {
+        };
+        let Some(header) = headers.get(place as usize) else {
+            return Verdict::Waiting;
+        };
+        if message == header::root(header).as_slice() {
             Verdict::Confirmed(header::time(header))
         } else {
             Verdict::Rejected
         }
     }
-}
-
-// A run lies within the bytes, and its headers alone mean as much as all of them: facts for the proof of `new`.
-fn within(base: u32, previous: [u8; 32], ceiling: u32, bytes: &[u8], run: Run) -> u8
-    requires { run ≡ run_of base previous ceiling bytes.now }
-    ensures count { run.covered ≤ 65536 }
-    ensures whole { 80 * run.covered ≤ length bytes.now }
-    ensures means { standing base (take (80 * run.covered) bytes.now) ≡ header_meaning base previous ceiling bytes.now }
-{
-    0
 }
 
 impl<'a> Judge for HeaderJudge<'a> {

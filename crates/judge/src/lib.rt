@@ -29,6 +29,7 @@ pub fn nobody_changes_nothing() -> u8
 }
 
 // A law: headers that follow never change a confirmed or a rejected verdict.
+#[tactic(auto, using(crate::proofs::Decided::decisions_last))]
 pub fn decisions_last() -> u8
     ensures { DecisionsLast }
 {
@@ -43,6 +44,7 @@ pub fn lines_split_the_text() -> u8
 }
 
 // A law: an address is listed exactly when it is not empty and equals some line of the text.
+#[tactic(auto, using(crate::proofs::Lines::listed_means_a_line))]
 pub fn listed_means_a_line() -> u8
     ensures { ListedMeansALine }
 {

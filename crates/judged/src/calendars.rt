@@ -1,37 +1,28 @@
 // The calendar judge on texts of addresses.
-use crate::ask::{PENDING, print_asked};
+use crate::ask::print_asked;
+use format::PENDING;
 use judge::calendar_judge::CalendarJudge;
 use std::{fs, io};
-
-fn print_pending(
-    rt: &HostRuntime,
-    judge: &CalendarJudge,
-    group: &str,
-    name: &str,
-    payload: &[u8],
-) -> io::Result<()> {
-    print_asked(rt, judge, group, name, &PENDING, payload, b"message")
-}
 
 fn print_text(rt: &HostRuntime, name: &str, path: &str) -> io::Result<()> {
     let text = fs::read(rt, path)?;
     let judge = CalendarJudge::new(&text);
-    print_pending(rt, &judge, name, "listed", b"\x15https://a.example.org")?;
-    print_pending(rt, &judge, name, "last", b"\x15https://c.example.org")?;
-    print_pending(rt, &judge, name, "beginning", b"\x14https://a.example.or")?;
-    print_pending(rt, &judge, name, "longer", b"\x16https://a.example.org/")?;
-    print_pending(
-        rt,
-        &judge,
-        name,
-        "behind-return",
-        b"\x17https://b.example.org/x",
-    )?;
-    print_pending(rt, &judge, name, "none", b"\x15https://d.example.org")?;
-    print_pending(rt, &judge, name, "empty", b"\x00")?;
-    print_pending(rt, &judge, name, "spaces", b"\x0ano address")?;
-    print_pending(rt, &judge, name, "cut", b"\x16https://c.example.org")?;
-    print_pending(rt, &judge, name, "trailing", b"\x14https://c.example.org")
+    let payloads: [(&str, &[u8]); 10] = [
+        ("listed", b"\x15https://a.example.org"),
+        ("last", b"\x15https://c.example.org"),
+        ("beginning", b"\x14https://a.example.or"),
+        ("longer", b"\x16https://a.example.org/"),
+        ("behind-return", b"\x17https://b.example.org/x"),
+        ("none", b"\x15https://d.example.org"),
+        ("empty", b"\x00"),
+        ("spaces", b"\x0ano address"),
+        ("cut", b"\x16https://c.example.org"),
+        ("trailing", b"\x14https://c.example.org"),
+    ];
+    for (case, payload) in payloads {
+        print_asked(rt, &judge, name, case, &PENDING, payload, b"message")?;
+    }
+    Ok(())
 }
 
 pub fn print_calendars(rt: &HostRuntime) -> io::Result<()> {

@@ -1,6 +1,8 @@
 // Each judge that a program can choose, under a tag of each kind.
-use crate::ask::{BITCOIN, PENDING, UNKNOWN, print_verdict};
-use crate::chains::{CEILING, PREVIOUS};
+use crate::ask::{UNKNOWN, print_verdict};
+use crate::chains::made;
+use format::{BITCOIN, PENDING};
+use headers::header;
 use judge::calendar_judge::CalendarJudge;
 use judge::choice::AnyJudge;
 use judge::header_judge::HeaderJudge;
@@ -25,12 +27,16 @@ fn print_tag<J: Judge>(
 }
 
 fn print_judge<J: Judge>(rt: &HostRuntime, name: &str, judge: &J, root: &[u8]) -> io::Result<()> {
-    print!(rt; "{name} bitcoin: ")?;
-    print_tag(rt, judge, &BITCOIN, &[0], root)?;
-    print!(rt; "{name} pending: ")?;
-    print_tag(rt, judge, &PENDING, b"\x15https://a.example.org", root)?;
-    print!(rt; "{name} unknown: ")?;
-    print_tag(rt, judge, &UNKNOWN, &[0], root)
+    let kinds: [(&str, &[u8], &[u8]); 3] = [
+        ("bitcoin", &BITCOIN, &[0]),
+        ("pending", &PENDING, b"\x15https://a.example.org"),
+        ("unknown", &UNKNOWN, &[0]),
+    ];
+    for (kind, tag, payload) in kinds {
+        print!(rt; "{name} {kind}: ")?;
+        print_tag(rt, judge, tag, payload, root)?;
+    }
+    Ok(())
 }
 
 fn print_chosen(rt: &HostRuntime, name: &str, judge: AnyJudge, root: &[u8]) -> io::Result<()> {
@@ -53,13 +59,13 @@ fn print_judges<'x>(
 pub fn print_choices(rt: &HostRuntime) -> io::Result<()> {
     let bytes = fs::read(rt, "whole.bin")?;
     let text = fs::read(rt, "calendars.txt")?;
-    let headers: &[u8] = &bytes;
-    if headers.len() >= 80 {
+    let (headers, _rest) = bytes.as_chunks();
+    if let Some(first) = headers.first() {
         print_judges(
             rt,
-            HeaderJudge::new(0, PREVIOUS, CEILING, headers),
+            HeaderJudge::new(&made(0), &bytes),
             CalendarJudge::new(&text),
-            &headers[36..68],
+            header::root(first),
         )?;
     }
     Ok(())

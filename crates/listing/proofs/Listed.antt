@@ -1,7 +1,7 @@
 -- The lines that are left, row by row.
-use Rattle.std.proofs.Common.{◌≡◌, ℕ, zero, suc, ◌+◌, ◌<◌, true, List, [], ◌∷◌, ◌++◌, length, drop, Some, None, sym, refl, ap, ◌∙◌, append_assoc, arith, length-append}
+use Rattle.std.proofs.Common.{◌≡◌, ℕ, zero, suc, ◌+◌, ◌≤◌, true, List, [], ◌∷◌, ◌++◌, length, drop, Some, None, sym, refl, ap, ◌∙◌, append_assoc, arith, length-append}
 use Rattle.std.specs.List.{slice_get}
-use Rattle.std.proofs.lemmas.List.{length-map}
+use Rattle.std.proofs.lemmas.List.{length-map, drop_all}
 use Rattle.claim_trees.specs.Tree.{Held, claims}
 use Rattle.judge.specs.Meaning.{Meaning}
 use Rattle.runs.specs.declared.report.Row.{Row}
@@ -10,7 +10,7 @@ use Rattle.runs.specs.Contents.{Content, about}
 use Rattle.runs.specs.Invariants.{keeps_tree}
 use Rattle.runs.specs.Reports.{row_on, rows_in, tally_in}
 use Rattle.runs.specs.Sheets.{line_of, lines_from, last_line, sheet_in}
-use Rattle.rows.proofs.Places.{claims_length, nth_some}
+use Rattle.rows.proofs.Places.{claims_length}
 use Rattle.rows.proofs.Walks.{walkable}
 use Rattle.listing.specs.Left.{lines_left}
 
@@ -38,11 +38,11 @@ left_more m s k row e =
     drop_line (rows_in m s) k row k e ∙ ap (λ z. line_of k row ++ lines_from (k + 1) (drop z (rows_in m s))) n
 
 -- no tree that is kept has more than 128 rows
-pub rows_few : (m : Meaning) (digest : List ℕ) (x : Held) (k : ℕ) (row : Row) → keeps_tree digest x ≡ true → Some row ≡ slice_get (rows_in m (about digest x)) k → k < 128
-rows_few m digest x k row h e =
+pub rows_all : (m : Meaning) (digest : List ℕ) (x : Held) (k : ℕ) → 128 ≤ k → keeps_tree digest x ≡ true → lines_left m (about digest x) k ≡ []
+unfolding lines_from
+rows_all m digest x k l h =
     let w = walkable digest x h in
-    let l = nth_some (rows_in m (about digest x)) k row e in
-    omega (arith, w.few, claims_length x.marks x.branches, length-map (claims x.marks x.branches) (row_on m digest))
+    ap (lines_from k) (drop_all k (rows_in m (about digest x)) (omega (arith, w.few, claims_length x.marks x.branches, length-map (claims x.marks x.branches) (row_on m digest))))
 
 pub more_long : (m : Meaning) (s : Content) (k : ℕ) (row : Row) → Some row ≡ slice_get (rows_in m s) k
     → length (lines_left m s k) ≡ length (line_of k row) + length (lines_left m s (k + 1))
@@ -56,6 +56,3 @@ more_behind m s k row acc e = append_assoc acc (line_of k row) (lines_left m s (
 
 pub sheet_long : (m : Meaning) (s : Content) (t : Tally) → t ≡ tally_in m s → length (sheet_in m s) ≡ length (lines_left m s 0) + length (last_line t)
 sheet_long m s t e = length-append (lines_left m s 0) (last_line (tally_in m s)) ∙ ap (λ z. length (lines_left m s 0) + length (last_line z)) (sym e)
-
-pub sheet_behind : (m : Meaning) (s : Content) (t : Tally) (acc : List ℕ) → t ≡ tally_in m s → acc ≡ lines_left m s 0 → acc ++ last_line t ≡ sheet_in m s
-sheet_behind m s t acc e d = ap (λ z. z ++ last_line t) d ∙ ap (λ z. lines_left m s 0 ++ last_line z) e

@@ -1,44 +1,60 @@
 // A whole sheet, written into a lent area: first how long it is, then its bytes. Nothing is allocated.
 #![tactic(auto)]
 
-ghost use Rattle.std.specs.Prelude.{◌≡◌, ◌≤◌, true, length, drop};
-ghost use Rattle.claims.specs.Models.{node};
-ghost use Rattle.runs.specs.Contents.{about};
-ghost use Rattle.runs.specs.Invariants.{keeps_tree};
+ghost use Rattle.std.specs.Prelude.{◌≡◌, ◌≤◌, length, drop};
 ghost use Rattle.runs.specs.Sheets.{sheet_in};
+ghost use Rattle.rows.specs.Models.{content_about};
 
-mod laws;
 mod lines;
 
-use claims::tree::Node;
 use judge::judge::Judge;
-use laws::{all_put, sheet_joined, sheet_measured};
 use lines::{lines_length, put_lines};
-use rows::tally_of;
+use replay::ROOM;
+use rows::held::About;
+use rows::{Area, tally_of};
 use sheets::last::{last_length, put_last};
+use written::writer::Writer;
 
-// How long the sheet is.
-pub fn sheet_length<J: Judge>(judge: &J, digest: &[u8], top: &Node, work: &mut [u8]) -> usize
-    requires { (4096 ≤ length work.old) × (keeps_tree digest.now (node top.now) ≡ true) }
-    ensures value { result ≡ length (sheet_in (J.meaning judge.now) (about digest.now (node top.now))) }
+// How long the sheet is. Its rows are worked in the first 4,096 bytes of the lent area.
+pub fn sheet_length<J: Judge>(judge: &J, about: &About, work: &mut [u8]) -> usize
+    requires { 4096 ≤ length work.old }
+    ensures value { result ≡ length (sheet_in (J.meaning judge.now) (content_about about.now)) }
     ensures kept { drop 4096 work.new ≡ drop 4096 work.old }
 {
-    let tally = tally_of(judge, digest, top, work);
-    let _measured = sheet_measured(judge, digest, top, &tally);
-    lines_length(judge, digest, top, work) + last_length(&tally)
+    let Some(area) = work.first_chunk_mut::<ROOM>() else {
+        unreachable!()
+    };
+    length_in(judge, about, area)
 }
 
-// Writes the sheet into an area that is exactly as long.
-pub fn put_sheet<J: Judge>(judge: &J, digest: &[u8], top: &Node, out: &mut [u8], work: &mut [u8])
-    requires lent { (4096 ≤ length work.old) × (keeps_tree digest.now (node top.now) ≡ true) }
-    requires out_len { length out.old ≡ length (sheet_in (J.meaning judge.now) (about digest.now (node top.now))) }
-    ensures out { out.new ≡ sheet_in (J.meaning judge.now) (about digest.now (node top.now)) }
+// Writes the sheet into an area that is exactly as long, worked likewise.
+pub fn put_sheet<J: Judge>(judge: &J, about: &About, out: &mut [u8], work: &mut [u8])
+    requires lent { 4096 ≤ length work.old }
+    requires out_len { length out.old ≡ length (sheet_in (J.meaning judge.now) (content_about about.now)) }
+    ensures out { out.new ≡ sheet_in (J.meaning judge.now) (content_about about.now) }
     ensures kept { drop 4096 work.new ≡ drop 4096 work.old }
 {
-    let tally = tally_of(judge, digest, top, work);
-    let _measured = sheet_measured(judge, digest, top, &tally);
-    let at = put_lines(judge, digest, top, out, work);
-    let _joined = sheet_joined(judge, digest, top, &tally, out, at);
-    let end = put_last(out, at, &tally);
-    let _all = all_put(out, end);
+    let Some(area) = work.first_chunk_mut::<ROOM>() else {
+        unreachable!()
+    };
+    put_in(judge, about, out, area)
+}
+
+#[tactic(auto, using(crate::proofs::Listed::sheet_long))]
+fn length_in<J: Judge>(judge: &J, about: &About, area: &mut Area) -> usize
+    ensures { result ≡ length (sheet_in (J.meaning judge.now) (content_about about.now)) }
+{
+    let tally = tally_of(judge, about, area);
+    lines_length(judge, about, area) + last_length(&tally)
+}
+
+#[tactic(auto, using(crate::proofs::Listed::sheet_long))]
+fn put_in<J: Judge>(judge: &J, about: &About, out: &mut [u8], area: &mut Area)
+    requires { length out.old ≡ length (sheet_in (J.meaning judge.now) (content_about about.now)) }
+    ensures { out.new ≡ sheet_in (J.meaning judge.now) (content_about about.now) }
+{
+    let tally = tally_of(judge, about, area);
+    let mut w = Writer::new(out);
+    put_lines(judge, about, &mut w, area);
+    put_last(&mut w, &tally);
 }

@@ -1,56 +1,59 @@
 // The lines of all rows, one after another: each row is read by its number, from 0 until there is none.
-ghost use Rattle.std.specs.Prelude.{◌≡◌, ◌≤◌, true, length, take, drop};
-ghost use Rattle.claims.specs.Models.{node};
-ghost use Rattle.runs.specs.Contents.{about};
-ghost use Rattle.runs.specs.Invariants.{keeps_tree};
+ghost use Rattle.std.specs.Prelude.{◌≡◌, ◌+◌, ◌≤◌, ◌++◌, length, Some};
+ghost use Rattle.std.specs.List.{slice_get};
+ghost use Rattle.runs.specs.Reports.{rows_in};
+ghost use Rattle.runs.specs.Sheets.{line_of};
+ghost use Rattle.rows.specs.Models.{content_about};
 ghost use Rattle.listing.specs.Left.{lines_left};
+ghost use Rattle.written.specs.Writers.{written, HasRoom, Moved};
 
-use crate::laws::{none_left, one_behind, one_more};
-use claims::tree::Node;
 use judge::judge::Judge;
-use rows::row_of;
+use rows::held::About;
+use rows::{Area, row_of};
+use runs::report::Row;
 use sheets::line::{line_length, put_line};
+use written::writer::Writer;
+
+// No tree has more rows.
+const ROWS: usize = 128;
+
+// Law: the line of a row that is there comes first of those that are left.
+// Kept: a fact as a function; tried as a lemma for the search in the loops below, and the proof didn't close.
+fn one_more<J: Judge>(judge: &J, about: &About, k: usize, row: &Row) -> u8
+    requires { Some row.now ≡ slice_get (rows_in (J.meaning judge.now) (content_about about.now)) k }
+    ensures { length (lines_left (J.meaning judge.now) (content_about about.now) k) ≡ length (line_of k row.now) + length (lines_left (J.meaning judge.now) (content_about about.now) (k + 1)) }
+{
+    0
+}
 
 // How long the lines are.
-pub(crate) fn lines_length<J: Judge>(judge: &J, digest: &[u8], top: &Node, work: &mut [u8]) -> usize
-    requires { (4096 ≤ length work.old) × (keeps_tree digest.now (node top.now) ≡ true) }
-    ensures value { result ≡ length (lines_left (J.meaning judge.now) (about digest.now (node top.now)) 0) }
+pub(crate) fn lines_length<J: Judge>(judge: &J, about: &About, work: &mut Area) -> usize
+    ensures value { result ≡ length (lines_left (J.meaning judge.now) (content_about about.now) 0) }
     ensures bound { result ≤ 16384 }
-    ensures kept { drop 4096 work.new ≡ drop 4096 work.old }
 {
     let mut done = 0;
-    let mut k = 0;
-    while let Some(row) = row_of(judge, digest, top, k, work) {
-        let _more = one_more(judge, digest, top, k, &row);
+    for k in 0..ROWS {
+        let Some(row) = row_of(judge, about, k, work) else {
+            break;
+        };
+        let _more = one_more(judge, about, k, &row);
         done += line_length(k, &row);
-        k += 1;
     }
-    let _none = none_left(judge, digest, top, k);
     done
 }
 
-// Puts the lines at the front, and answers the offset behind them.
-pub(crate) fn put_lines<J: Judge>(
-    judge: &J,
-    digest: &[u8],
-    top: &Node,
-    out: &mut [u8],
-    work: &mut [u8],
-) -> usize
-    requires lent { (4096 ≤ length work.old) × (keeps_tree digest.now (node top.now) ≡ true) }
-    requires room { length (lines_left (J.meaning judge.now) (about digest.now (node top.now)) 0) ≤ length out.old }
-    ensures next { result ≡ length (lines_left (J.meaning judge.now) (about digest.now (node top.now)) 0) }
-    ensures front { take result out.new ≡ lines_left (J.meaning judge.now) (about digest.now (node top.now)) 0 }
-    ensures kept { drop 4096 work.new ≡ drop 4096 work.old }
+// Puts the lines.
+// Kept: a loop that measures and one that puts; one for both would be handed a closure that borrows the writer or counts, and be no plainer.
+pub(crate) fn put_lines<J: Judge>(judge: &J, about: &About, w: &mut Writer<'_>, work: &mut Area)
+    requires { HasRoom w.old (length (lines_left (J.meaning judge.now) (content_about about.now) 0)) }
+    ensures moved { Moved w.old w.new (length (lines_left (J.meaning judge.now) (content_about about.now) 0)) }
+    ensures front { written w.new ≡ written w.old ++ lines_left (J.meaning judge.now) (content_about about.now) 0 }
 {
-    let mut at = 0;
-    let mut k = 0;
-    while let Some(row) = row_of(judge, digest, top, k, work) {
-        let _more = one_more(judge, digest, top, k, &row);
-        let _behind = one_behind(judge, digest, top, k, &row, out, at);
-        at = put_line(out, at, k, &row);
-        k += 1;
+    for k in 0..ROWS {
+        let Some(row) = row_of(judge, about, k, work) else {
+            break;
+        };
+        let _more = one_more(judge, about, k, &row);
+        put_line(w, k, &row);
     }
-    let _none = none_left(judge, digest, top, k);
-    at
 }

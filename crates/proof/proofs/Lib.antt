@@ -1,2 +1,2 @@
 pub mod Weights
-pub mod Rising
+pub mod Payloads

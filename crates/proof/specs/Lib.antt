@@ -5,3 +5,4 @@ pub mod Heads
 pub mod Levels
 pub mod Places
 pub mod Counted
+pub mod Wholes

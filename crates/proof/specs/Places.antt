@@ -1,18 +1,18 @@
 -- Where a walk stands, and what it hands out.
-use Rattle.std.specs.Prelude.{cond, Some, None, Ok, Err, Option, Result}
+use Rattle.std.specs.Prelude.{Some, None, Ok, Err, Option, Result}
 use Rattle.format.specs.Outcome.{Outcome, got, fault}
 use Rattle.format.specs.Files.{Head}
-use Rattle.format.specs.Walks.{Place, inside, behind, Handed, handed, step}
+use Rattle.format.specs.Walks.{Place, Handed, handed, step}
 use Rattle.proof.specs.declared.fault.Fault.{Fault}
 use Rattle.proof.specs.declared.walk.Walk.{Walk}
 use Rattle.proof.specs.declared.walk.Step.{Step}
 use Rattle.proof.specs.Faults.{numbered}
 use Rattle.proof.specs.Heads.{headed}
-use Rattle.proof.specs.Levels.{levels_of}
+use Rattle.proof.specs.Levels.{standing}
 use Rattle.proof.specs.Pieces.{piece}
 
 abbrev pub place_of : Walk → Place
-place_of w = cond w.inside (inside (levels_of w.more w.sizes w.depth) w.size) behind
+place_of w = standing w.size w.levels
 
 -- the head of the file, and how far a new walk has read
 abbrev pub opened : Result Walk Fault → Outcome Head

@@ -1,17 +1,17 @@
 // Reading attestations.
-ghost use Rattle.std.specs.Prelude.{◌≡◌, ℕ, ◌+◌, ◌-◌, ◌≤◌, length, IfOk};
-ghost use Rattle.format.specs.Attestations.{height_at, address_at, content_at, address_byte, address_bytes, same as same_bytes, bitcoin_tag, pending_tag};
+ghost use Rattle.std.specs.Prelude.{◌≡◌, cond, ℕ, ◌+◌, ◌-◌, ◌≤◌, length, IfOk};
+ghost use Rattle.format.specs.Outcome.{got, fault, then};
+ghost use Rattle.format.specs.Numbers.{block_at};
+ghost use Rattle.format.specs.Attestations.{address_limit, height_at, address_at, content_at, address_byte, address_bytes, same as same_bytes, bitcoin_tag, pending_tag};
 ghost use Rattle.format.specs.Items.{attestation_at};
 ghost use Rattle.proof.specs.Answers.{outcome};
+ghost use Rattle.proof.specs.Wholes.{wholly};
 ghost use Rattle.proof.specs.Pieces.{piece, attested, Bounded};
 
 use crate::fault::Fault;
 use crate::item::{Content, Item};
 use crate::reader::Reader;
-
-const BITCOIN: [u8; 8] = [0x05, 0x88, 0x96, 0x0d, 0x73, 0xd7, 0x19, 0x01];
-
-const PENDING: [u8; 8] = [0x83, 0xdf, 0xe3, 0x0d, 0x2e, 0xf9, 0x0c, 0x8e];
+use format::{BITCOIN, PENDING};
 
 // The longest payload and the longest address.
 const PAYLOAD: u32 = 8192;
@@ -26,10 +26,10 @@ impl<'a> Reader<'a> {
         ensures reads { outcome piece result self.new.at ≡ attestation_at self.old.file.now self.old.at }
     {
         let offset = self.at;
-        let tag = self.bytes(8)?;
+        let tag = self.array()?;
         let payload = self.block(0, PAYLOAD)?;
         let first = self.at - payload.len();
-        let content = content(tag, payload, self.file, first, self.at)?;
+        let content = self.content(tag, payload, first)?;
         Ok(Item::Attestation {
             content,
             payload,
@@ -37,124 +37,111 @@ impl<'a> Reader<'a> {
             first,
         })
     }
-}
 
-// What the payload, which is the file from first to end, says under the tag.
-fn content<'a>(
-    tag: &'a [u8],
-    payload: &'a [u8],
-    file: &'a [u8],
-    first: usize,
-    end: usize,
-) -> Result<Content<'a>, Fault>
-    requires { (first ≤ end) × (end ≤ length file.now) }
-    ensures { outcome attested result end ≡ content_at tag.now payload.now file.now first end }
-{
-    if is_bitcoin(tag) {
-        let height = height(file, first, end)?;
-        return Ok(Content::Bitcoin(height));
+    // What the payload, which is the file from first to here, says under the tag.
+    fn content(
+        &self,
+        tag: &'a [u8; 8],
+        payload: &'a [u8],
+        first: usize,
+    ) -> Result<Content<'a>, Fault>
+        requires { (first ≤ self.now.at) × (self.now.at ≤ length self.now.file.now) }
+        ensures { outcome attested result self.now.at ≡ content_at tag.now payload.now self.now.file.now first self.now.at }
+    {
+        if is_bitcoin(tag) {
+            let height = height(self.file, first, self.at)?;
+            return Ok(Content::Bitcoin(height));
+        }
+        if is_pending(tag) {
+            let address = address(self.file, first, self.at)?;
+            return Ok(Content::Pending(address));
+        }
+        Ok(Content::Unknown { tag, payload })
     }
-    if is_pending(tag) {
-        let address = address(file, first, end)?;
-        return Ok(Content::Pending(address));
+
+    // A length, then the bytes of an address, in the payload that begins at first.
+    fn address(&mut self, first: usize) -> Result<&'a [u8], Fault>
+        ensures same { self.new.file.now ≡ self.old.file.now }
+        ensures reads { outcome (λ a. a.now) result self.new.at ≡ then (block_at 0 address_limit self.old.file.now self.old.at) (λ a n. cond (address_bytes a) (got a n) (fault 10 first)) }
+    {
+        let address = self.block(0, ADDRESS)?;
+        if in_address(address) {
+            Ok(address)
+        } else {
+            Err(Fault::Content(first))
+        }
     }
-    Ok(Content::Unknown { tag, payload })
+
+    // What was read of a payload, which is the file from first on: it must be all of it.
+    // Kept: what was read is passed, and no closure that reads; the proof of one that lends a part of the file didn't close.
+    fn whole<T: Copy>(&self, first: usize, read: Result<T, Fault>) -> Result<T, Fault>
+        ensures { result ≡ wholly first (length self.now.file.now) read self.now.at }
+    {
+        match read {
+            Ok(_) if self.at != self.file.len() => Err(Fault::Content(first)),
+            Err(Fault::Ends(_)) => Err(Fault::Content(first)),
+            read => read,
+        }
+    }
 }
 
 pub fn is_bitcoin(tag: &[u8]) -> bool
     ensures { result ≡ same_bytes tag.now bitcoin_tag }
 {
-    same(tag, &BITCOIN)
+    tag == BITCOIN.as_slice()
 }
 
 pub fn is_pending(tag: &[u8]) -> bool
     ensures { result ≡ same_bytes tag.now pending_tag }
 {
-    same(tag, &PENDING)
+    tag == PENDING.as_slice()
 }
 
 // The height that the payload from first to end is.
+// Kept: file, first and end apart; callers hold them as they are, and a struct would be built for one call and opened at once.
+#[tactic(auto, using(crate::proofs::Payloads::payload_read))]
 pub fn height(file: &[u8], first: usize, end: usize) -> Result<u32, Fault>
     requires { (first ≤ end) × (end ≤ length file.now) }
     ensures { outcome (λ n. n) result end ≡ height_at file.now first end }
 {
     let mut inner = Reader {
-        file: &file[0..end],
+        file: &file[..end],
         at: first,
     };
-    match inner.number() {
-        Ok(n) => {
-            if inner.at == end {
-                Ok(n)
-            } else {
-                Err(Fault::Content(first))
-            }
-        }
-        Err(Fault::Ends(_)) => Err(Fault::Content(first)),
-        Err(fault) => Err(fault),
-    }
+    let height = inner.number();
+    inner.whole(first, height)
 }
 
 // The address that the payload from first to end holds.
+#[tactic(auto, using(crate::proofs::Payloads::payload_read))]
 pub fn address<'a>(file: &'a [u8], first: usize, end: usize) -> Result<&'a [u8], Fault>
     requires { (first ≤ end) × (end ≤ length file.now) }
     ensures { outcome (λ a. a.now) result end ≡ address_at file.now first end }
 {
     let mut inner = Reader {
-        file: &file[0..end],
+        file: &file[..end],
         at: first,
     };
-    match inner.block(0, ADDRESS) {
-        Ok(address) => {
-            if inner.at == end && in_address(address) {
-                Ok(address)
-            } else {
-                Err(Fault::Content(first))
-            }
-        }
-        Err(Fault::Ends(_)) => Err(Fault::Content(first)),
-        Err(fault) => Err(fault),
-    }
+    let address = inner.address(first);
+    inner.whole(first, address)
 }
 
 // Whether every byte may stand in an address.
 fn in_address(bytes: &[u8]) -> bool
     ensures { result ≡ address_bytes bytes.now }
 {
-    for b in bytes {
-        if !address_byte(*b) {
-            return false;
-        }
-    }
-    true
+    bytes.iter().all(|b| address_byte(*b))
 }
 
 fn address_byte(b: u8) -> bool
     ensures { result ≡ address_byte b }
 {
-    match b as char {
-        'a'..='z' | 'A'..='Z' | '0'..='9' | '-' | '.' | '_' | '/' | ':' => true,
-        _ => false,
-    }
+    matches!(b, b'a'..=b'z' | b'A'..=b'Z' | b'0'..=b'9' | b'-' | b'.' | b'_' | b'/' | b':')
 }
 
 // Whether two byte strings are equal.
 pub fn same(a: &[u8], b: &[u8]) -> bool
     ensures { result ≡ same_bytes a.now b.now }
 {
-    compare(a, b)
-}
-
-fn compare(a: &[u8], b: &[u8]) -> bool
-    ensures { result ≡ same_bytes a.now b.now }
-{
-    if a.len() != b.len() {
-        return false;
-    }
-    for i in 0..a.len() {
-        if a[i] != b[i] {
-            return false;
-        }
-    }
-    true
+    a == b
 }

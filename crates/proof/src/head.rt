@@ -14,17 +14,18 @@ pub const MARK: [u8; 31] = [
 ];
 
 // SHA-256, the only file hash.
-const FILE_HASH: u8 = 0x08;
+pub const FILE_HASH: u8 = 0x08;
 
 // The offset of the file hash tag, which a padded version moves, and the digest.
 #[derive(Clone, Copy)]
 pub struct Head<'a> {
     pub hash: usize,
-    pub digest: &'a [u8],
+    pub digest: &'a [u8; 32],
 }
 
 impl<'a> Reader<'a> {
     // These bytes, and no others.
+    #[tactic(auto, using(format::proofs::ByteSteps::mark_more, format::proofs::ByteSteps::mark_all))]
     fn due(&mut self, due: &[u8]) -> Result<(), Fault>
         ensures same { self.new.file.now ≡ self.old.file.now }
         ensures reads { outcome (λ _. tt) result self.new.at ≡ mark_at due.now self.old.file.now self.old.at }
@@ -39,6 +40,7 @@ impl<'a> Reader<'a> {
         Ok(())
     }
 
+    #[tactic(auto, unfolding(format::specs::Files::mark))]
     fn mark(&mut self) -> Result<(), Fault>
         ensures same { self.new.file.now ≡ self.old.file.now }
         ensures reads { outcome (λ _. tt) result self.new.at ≡ mark_at mark_bytes self.old.file.now self.old.at }
@@ -55,7 +57,7 @@ impl<'a> Reader<'a> {
         if tag != FILE_HASH {
             return Err(Fault::FileHash(hash));
         }
-        let digest = self.bytes(32)?;
+        let digest = self.array()?;
         Ok(Head { hash, digest })
     }
 

@@ -16,7 +16,7 @@ impl<'a> Reader<'a> {
         ensures same { self.new.file.now ≡ self.old.file.now }
         ensures reads { got result self.new.at ≡ more_at self.old.file.now self.old.at }
     {
-        if self.at < self.file.len() && self.file[self.at] == 0xff {
+        if self.file.get(self.at) == Some(&0xff) {
             self.at += 1;
             return true;
         }

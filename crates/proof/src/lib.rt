@@ -7,6 +7,7 @@ pub mod fault;
 pub mod head;
 pub mod item;
 pub mod items;
+mod levels;
 pub mod numbers;
 pub mod operations;
 pub mod reader;

@@ -11,12 +11,10 @@ impl<'a> Reader<'a> {
         ensures same { self.new.file.now ≡ self.old.file.now }
         ensures reads { outcome (λ b. b) result self.new.at ≡ byte_at self.old.file.now self.old.at }
     {
-        if self.at >= self.file.len() {
-            return Err(Fault::Ends(self.file.len()));
-        }
-        let b = self.file[self.at];
+        let ends = Fault::Ends(self.file.len());
+        let b = self.file.get(self.at).ok_or(ends)?;
         self.at += 1;
-        Ok(b)
+        Ok(*b)
     }
 
     // The next n bytes, as a part of the file.
@@ -27,13 +25,20 @@ impl<'a> Reader<'a> {
         ensures same { self.new.file.now ≡ self.old.file.now }
         ensures reads { outcome (λ s. s.now) result self.new.at ≡ bytes_at n self.old.file.now self.old.at }
     {
-        let file = self.file;
-        let at = self.at;
-        if at > file.len() || n > file.len() - at {
-            return Err(Fault::Ends(file.len()));
-        }
-        self.at = at + n;
-        Ok(&file[at..at + n])
+        let ends = Fault::Ends(self.file.len());
+        let rest = self.file.get(self.at..).ok_or(ends)?;
+        let bytes = rest.get(..n).ok_or(ends)?;
+        self.at += n;
+        Ok(bytes)
+    }
+
+    // The next N bytes, lent as an array.
+    pub(crate) fn array<const N: usize>(&mut self) -> Result<&'a [u8; N], Fault>
+        ensures same { self.new.file.now ≡ self.old.file.now }
+        ensures reads { outcome (λ s. s.now) result self.new.at ≡ bytes_at N self.old.file.now self.old.at }
+    {
+        let ends = Fault::Ends(self.file.len());
+        self.bytes(N)?.as_array().ok_or(ends)
     }
 
     // A number: seven bits to a byte, the lowest first; a byte with its top bit set is not the last.
@@ -44,20 +49,15 @@ impl<'a> Reader<'a> {
         let first = self.at;
         let mut value: u64 = 0;
         let mut weight: u64 = 1;
-        let mut left: u32 = 5;
-        while left > 0 {
+        for _ in 0..5u8 {
             let b = self.byte()?;
             let group = b as u64;
             if group < 128 {
                 value += group * weight;
-                if value > 0xffff_ffff {
-                    return Err(Fault::Number(first));
-                }
-                return Ok(value as u32);
+                return u32::try_from(value).map_err(|_| Fault::Number(first));
             }
             value += (group - 128) * weight;
             weight *= 128;
-            left -= 1;
         }
         Err(Fault::Number(first))
     }

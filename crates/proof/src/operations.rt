@@ -47,9 +47,7 @@ impl<'a> Reader<'a> {
         ensures same { self.new.file.now ≡ self.old.file.now }
         ensures reads { outcome piece result self.new.at ≡ operation_at (kind_of tag) offset depth size self.old.file.now self.old.at }
     {
-        let Some(kind) = kind_of(tag) else {
-            return Err(Fault::Operation(offset));
-        };
+        let kind = Kind::try_from(tag).map_err(|_| Fault::Operation(offset))?;
         if depth >= PATH {
             return Err(Fault::Path(offset));
         }
@@ -64,19 +62,6 @@ impl<'a> Reader<'a> {
             offset,
             first,
         })
-    }
-}
-
-pub(crate) fn kind_of(tag: u8) -> Option<Kind>
-    ensures { result ≡ kind_of tag }
-{
-    match tag {
-        0x08 => Some(Kind::Sha256),
-        0xf0 => Some(Kind::Append),
-        0xf1 => Some(Kind::Prepend),
-        0xf2 => Some(Kind::Reverse),
-        0xf3 => Some(Kind::Hexlify),
-        _ => None,
     }
 }
 

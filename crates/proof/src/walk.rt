@@ -1,20 +1,16 @@
 // A walk over a proof file: one item after another, each with its depth, without allocating.
 use crate::head::Head;
 use crate::item::Item;
+use crate::levels::Levels;
 use crate::reader::Reader;
 
-// Where a walk stands: in a node under `depth` operations over a message of `size` bytes, or behind the top node.
-// For each of the nodes above, `more` says whether items follow there, and `sizes` how long its message is. A node
-// lies under at most 255 operations, so a depth is always an index.
+// Where a walk stands: in a node under these levels, over a message of `size` bytes; or, with no size, behind the top node.
 #[derive(Drop)]
 pub struct Walk<'a> {
     pub(crate) reader: Reader<'a>,
     pub(crate) head: Head<'a>,
-    pub(crate) more: [bool; 256],
-    pub(crate) sizes: [u16; 256],
-    pub(crate) depth: u8,
-    pub(crate) size: u16,
-    pub(crate) inside: bool,
+    pub(crate) levels: Levels,
+    pub(crate) size: Option<u16>,
 }
 
 // An item with the number of operations above it.

@@ -5,14 +5,12 @@ pub(crate) fn put(part: &mut [u8], bytes: &[u8])
     requires { length bytes.now ≤ length part.old }
     ensures { part.new ≡ bytes.now ++ drop (length bytes.now) part.old }
 {
-    let front = &mut part[0..bytes.len()];
-    front.copy_from_slice(bytes);
+    part[..bytes.len()].copy_from_slice(bytes);
 }
 
 pub(crate) fn zero(part: &mut [u8], n: usize)
     requires { n ≤ length part.old }
     ensures { part.new ≡ replicate n 0 ++ drop n part.old }
 {
-    let front = &mut part[0..n];
-    front.fill(0);
+    part[..n].fill(0);
 }

@@ -9,13 +9,14 @@ ghost use Rattle.replay.specs.Paths.{ops, replayed, replay_in};
 
 mod bytes;
 pub mod guard;
+pub mod hex;
 pub mod link;
 mod operations;
 mod paths;
 
 use format::Kind;
 use link::Link;
-use operations::{append, hash, hexlify, prepend, turn};
+use operations::operate;
 use paths::{fitting, placed};
 
 // The bytes at the front of an area in which messages are worked: as many as the longest message has.
@@ -29,19 +30,10 @@ pub fn apply(kind: Kind, argument: &[u8], area: &mut [u8], size: usize) -> usize
     ensures message { take result area.new ≡ apply (op_of kind argument.now) (take size area.old) }
     ensures kept { drop 4096 area.new ≡ drop 4096 area.old }
 {
-    match kind {
-        Kind::Sha256 => {
-            hash(area, size);
-            32
-        }
-        Kind::Append => append(area, size, argument),
-        Kind::Prepend => prepend(area, size, argument),
-        Kind::Reverse => {
-            turn(area, size);
-            size
-        }
-        Kind::Hexlify => hexlify(area, size),
-    }
+    let Some(work) = area.first_chunk_mut::<ROOM>() else {
+        unreachable!()
+    };
+    operate(kind, argument, work, size)
 }
 
 // The message that a path makes of a digest: at the front of the area, with its size as the answer. Where the area has
@@ -50,16 +42,15 @@ pub fn replay(path: &[Link], digest: &[u8], area: &mut [u8]) -> Option<usize>
     ensures bound { IfSome result (λ size. size ≤ 4096) }
     ensures work { replayed result area.new ≡ replay_in (ops path.now) digest.now area.old }
 {
-    if area.len() < ROOM {
-        return None;
-    }
+    let work = area.first_chunk_mut::<ROOM>()?;
     if !fitting(path, digest.len()) {
         return None;
     }
-    Some(placed(path, digest, area))
+    Some(placed(path, digest, work))
 }
 
 // A law: the size of a result, as the reader reckons it, is the length of the message that the operation makes.
+#[tactic(auto, using(crate::proofs::Sizes::sizes_are_lengths))]
 pub fn sizes_are_lengths() -> u8
     ensures { SizesAreLengths }
 {
@@ -67,6 +58,7 @@ pub fn sizes_are_lengths() -> u8
 }
 
 // A law: to replay a path that goes on is to replay its beginning, and then the rest on what that made.
+#[tactic(auto, using(crate::proofs::Sizes::paths_go_on))]
 pub fn paths_go_on() -> u8
     ensures { PathsGoOn }
 {

@@ -1,81 +1,75 @@
-// Each operation on the message at the front of an area, worked in place.
-ghost use Rattle.std.specs.Prelude.{◌≡◌, ℕ, ◌+◌, ◌*◌, ◌<◌, ◌≤◌, List, ◌++◌, reverse, length, take, drop};
+// Each operation on the message in the first `size` bytes of a work area, worked in place.
+ghost use Rattle.std.specs.Prelude.{◌≡◌, ◌+◌, ◌*◌, ◌≤◌, ◌++◌, length, take};
+ghost use Rattle.format.specs.Operations.{op_of, result_size};
 ghost use Rattle.sha256.specs.Sha256.{sha256};
-ghost use Rattle.replay.specs.Messages.{digit, digits};
+ghost use Rattle.replay.specs.Messages.{apply, digits};
 
+use crate::ROOM;
 use crate::bytes::put;
+use crate::hex::hex_digit;
+use format::Kind;
 
-// The argument goes behind the message, into the part of the area that is left from there on.
-pub(crate) fn append(area: &mut [u8], size: usize, argument: &[u8]) -> usize
-    requires { (4096 ≤ length area.old) × (size + length argument.now ≤ 4096) }
+// Kept: area and size apart; a struct around the lent area would need a clause in each method that the area is the same.
+
+// The argument goes behind the message.
+fn append(work: &mut [u8; ROOM], size: usize, argument: &[u8]) -> usize
+    requires { size + length argument.now ≤ 4096 }
     ensures value { result ≡ size + length argument.now }
-    ensures message { take result area.new ≡ take size area.old ++ argument.now }
-    ensures kept { drop 4096 area.new ≡ drop 4096 area.old }
+    ensures message { take result work.new ≡ take size work.old ++ argument.now }
 {
-    put(&mut area[size..], argument);
+    put(&mut work[size..], argument);
     size + argument.len()
 }
 
-// The last n bytes of a message go before the others.
-fn shift(area: &mut [u8], size: usize, n: usize)
-    requires { (4096 ≤ length area.old) × ((size ≤ 4096) × (n ≤ size)) }
-    ensures message { (front back : List ℕ) → take size area.old ≡ front ++ back → length back ≡ n → take size area.new ≡ back ++ front }
-    ensures kept { drop 4096 area.new ≡ drop 4096 area.old }
-{
-    let message = &mut area[0..size];
-    message.rotate_right(n);
-}
-
 // Behind the message first, and then to its front.
-pub(crate) fn prepend(area: &mut [u8], size: usize, argument: &[u8]) -> usize
-    requires { (4096 ≤ length area.old) × (size + length argument.now ≤ 4096) }
+fn prepend(work: &mut [u8; ROOM], size: usize, argument: &[u8]) -> usize
+    requires { size + length argument.now ≤ 4096 }
     ensures value { result ≡ size + length argument.now }
-    ensures message { take result area.new ≡ argument.now ++ take size area.old }
-    ensures kept { drop 4096 area.new ≡ drop 4096 area.old }
+    ensures message { take result work.new ≡ argument.now ++ take size work.old }
 {
-    let total = append(area, size, argument);
-    shift(area, total, argument.len());
+    let total = append(work, size, argument);
+    work[..total].rotate_right(argument.len());
     total
 }
 
-pub(crate) fn turn(area: &mut [u8], size: usize)
-    requires { (4096 ≤ length area.old) × (size ≤ 4096) }
-    ensures message { take size area.new ≡ reverse (take size area.old) }
-    ensures kept { drop 4096 area.new ≡ drop 4096 area.old }
-{
-    let message = &mut area[0..size];
-    message.reverse();
-}
-
-fn hex_digit(n: u8) -> u8
-    requires { n < 16 }
-    ensures { result ≡ digit n }
-{
-    if n < 10 { b'0' + n } else { b'a' + (n - 10) }
-}
-
 // From the end on: the two digits of a byte stand at or behind it, where every byte has been turned already.
-pub(crate) fn hexlify(area: &mut [u8], size: usize) -> usize
-    requires { (4096 ≤ length area.old) × (size * 2 ≤ 4096) }
+fn hexlify(work: &mut [u8; ROOM], size: usize) -> usize
+    requires { size * 2 ≤ 4096 }
     ensures value { result ≡ size * 2 }
-    ensures message { take result area.new ≡ digits (take size area.old) }
-    ensures kept { drop 4096 area.new ≡ drop 4096 area.old }
+    ensures message { take result work.new ≡ digits (take size work.old) }
 {
-    let mut i = size;
-    while i > 0 {
-        i -= 1;
-        let byte = area[i];
-        area[2 * i + 1] = hex_digit(byte % 16);
-        area[2 * i] = hex_digit(byte / 16);
+    for i in (0..size).rev() {
+        let byte = work[i];
+        work[2 * i + 1] = hex_digit(byte % 16);
+        work[2 * i] = hex_digit(byte / 16);
     }
     size * 2
 }
 
-pub(crate) fn hash(area: &mut [u8], size: usize)
-    requires { (4096 ≤ length area.old) × (size ≤ 4096) }
-    ensures message { take 32 area.new ≡ sha256 (take size area.old) }
-    ensures kept { drop 4096 area.new ≡ drop 4096 area.old }
+fn hash(work: &mut [u8; ROOM], size: usize) -> usize
+    requires { size ≤ 4096 }
+    ensures value { result ≡ 32 }
+    ensures message { take result work.new ≡ sha256 (take size work.old) }
 {
-    let digest = sha256::sha256(&area[0..size]);
-    put(area, &digest);
+    let digest = sha256::sha256(&work[..size]);
+    put(work, &digest);
+    digest.len()
+}
+
+// One operation. Answers the size of its result, which stands at the front of the area then.
+pub(crate) fn operate(kind: Kind, argument: &[u8], work: &mut [u8; ROOM], size: usize) -> usize
+    requires { (size ≤ 4096) × (result_size kind size (length argument.now) ≤ 4096) }
+    ensures value { result ≡ result_size kind size (length argument.now) }
+    ensures message { take result work.new ≡ apply (op_of kind argument.now) (take size work.old) }
+{
+    match kind {
+        Kind::Sha256 => hash(work, size),
+        Kind::Append => append(work, size, argument),
+        Kind::Prepend => prepend(work, size, argument),
+        Kind::Reverse => {
+            work[..size].reverse();
+            size
+        }
+        Kind::Hexlify => hexlify(work, size),
+    }
 }

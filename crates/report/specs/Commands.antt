@@ -1,49 +1,29 @@
 -- What the words after the program's name ask for.
-use Rattle.std.specs.Prelude.{ℕ, cond, ◌&&◌, List, codes, ◌==◌, nat_le}
-use Rattle.format.specs.Attestations.{same}
+use Rattle.std.specs.Prelude.{ℕ, cond, ◌&&◌, List, drop, length, codes, ◌==◌, nat_le, bytes_eq}
+use Rattle.std.specs.Borrow.{Bor}
+use Rattle.account.specs.Commands.{Asked as PlainAsked, word, asked as plainly_asked, asked_by as plainly_asked_by}
 use Rattle.report.specs.declared.commands.Command.{Command}
-use Rattle.report.specs.declared.commands.Command.TheVariants.{Usage, Version, Show, Messages, Headers, Merge, Sheet, Run, Overwrite, Unknown}
+use Rattle.report.specs.declared.commands.Command.TheVariants.{Merge, Sheet, Run, Overwrite, Plain}
 
 pub data Asked : Type 0 where
-  usage : Asked
-  version : Asked
-  shown : List ℕ → Asked
-  messages : List ℕ → Asked
-  headers : List ℕ → Asked
-  merge : Asked
-  sheet : Asked
+  merge : List (Bor (List ℕ)) → Asked
+  sheet : List (Bor (List ℕ)) → Asked
   run : List ℕ → Asked
   overwrite : List ℕ → Asked
-  unknown : Asked
+  plain : PlainAsked → Asked
 
 abbrev pub asked : Command → Asked
-asked Usage = usage
-asked Version = version
-asked (Show path) = shown path.now
-asked (Messages path) = messages path.now
-asked (Headers path) = headers path.now
-asked Merge = merge
-asked Sheet = sheet
+asked (Merge words) = merge words.now
+asked (Sheet words) = sheet words.now
 asked (Run path) = run path.now
 asked (Overwrite path) = overwrite path.now
-asked Unknown = unknown
+asked (Plain command) = plain (plainly_asked command)
 
--- the commands that make calls on a dossier
-abbrev pub called_by : ℕ → List ℕ → List ℕ → List ℕ → Asked
-called_by count first second third =
-    cond (same first (codes "merge")) merge
-    (cond (same first (codes "sheet")) sheet
-    (cond (count == 2 && same first (codes "run")) (run second)
-    (cond (count == 3 && (same first (codes "run") && same second (codes "--force"))) (overwrite third)
-    unknown)))
-
--- of count words, the first three
-abbrev pub asked_by : ℕ → List ℕ → List ℕ → List ℕ → Asked
-asked_by count first second third =
-    cond (count == 0) usage
-    (cond (count == 1 && same first (codes "help")) usage
-    (cond (count == 1 && same first (codes "version")) version
-    (cond (count == 2 && same first (codes "show")) (shown second)
-    (cond (count == 3 && (same first (codes "show") && same second (codes "--messages"))) (messages third)
-    (cond (nat_le 2 count && same first (codes "headers")) (headers second)
-    (called_by count first second third))))))
+-- the commands that make calls on a dossier, and then those that make none
+abbrev pub asked_by : List (Bor (List ℕ)) → Asked
+asked_by words =
+    cond (nat_le 1 (length words) && bytes_eq (word words 0) (codes "merge")) (merge (drop 1 words))
+    (cond (nat_le 1 (length words) && bytes_eq (word words 0) (codes "sheet")) (sheet (drop 1 words))
+    (cond (length words == 2 && bytes_eq (word words 0) (codes "run")) (run (word words 1))
+    (cond (length words == 3 && (bytes_eq (word words 0) (codes "run") && bytes_eq (word words 1) (codes "--force"))) (overwrite (word words 2))
+    (plain (plainly_asked_by words)))))

@@ -31,6 +31,7 @@ fn claims_text(heap: Global, n: usize) -> Result<String, AllocError>
     format!(in heap; "{n} {word}")
 }
 
+// Kept: a type whose Display picks one of the two words would be no plainer than this `if`.
 fn claim_word(n: usize) -> &'static str
     ensures { result.now ≡ claim_word n }
 {
@@ -47,6 +48,7 @@ pub fn refused_piece_line(heap: Global, path: &str, refusal: &Refusal) -> Result
 }
 
 // A refusal in words; want of memory needs none.
+// Kept: an impl of Display would stand in the crate that has the type, and these words are the program's own.
 fn reason(refusal: &Refusal) -> &'static str
     ensures { result.now ≡ reason_text refusal.now }
 {
@@ -71,6 +73,7 @@ fn in_brackets(heap: Global, words: &str) -> Result<String, AllocError>
     format!(in heap; " ({words})")
 }
 
+// Kept: the same words without commas stand in `script`; with the comma as a parameter the format would no longer read as what is printed.
 fn counts_text(heap: Global, tally: &Tally) -> Result<String, AllocError>
     ensures { IfOk result (λ s. string_bytes s ≡ counts_text tally.now) }
 {

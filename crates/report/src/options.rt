@@ -1,10 +1,8 @@
 // One option: what a word and the word behind it ask for.
-ghost use Rattle.std.specs.Prelude.{◌≡◌, ◌-◌, ◌^◌, ◌<◌};
-ghost use Rattle.report.specs.Options.{dashed as dashed_word, chain_named, named_by, is_paired, is_piece, with_file, based, linked, capped, with_chain, read_as, stepped, no_request};
+ghost use Rattle.std.specs.Prelude.{◌≡◌};
+ghost use Rattle.report.specs.Options.{dashed as dashed_word, named_by, is_paired, is_piece, with_file, stepped, no_request};
 
-use coverage::options::{Options, main_chain};
-use coverage::reading::{bits, hash, number};
-use proof::attestations::same;
+use coverage::options::{ChainOption, Options, chain_option, main_chain, with_chain};
 
 // The options whose value is a file.
 #[derive(Clone, Copy)]
@@ -13,14 +11,6 @@ pub enum FileOption {
     Sheet,
     Headers,
     Calendars,
-}
-
-// The options whose value says what the first header is held to be.
-#[derive(Clone, Copy)]
-pub enum ChainOption {
-    Base,
-    Previous,
-    Ceiling,
 }
 
 // What a word is.
@@ -34,28 +24,28 @@ pub enum Named {
     Unknown,
 }
 
-// What is asked for so far; files are kept as places in the list of words.
+// What is asked for so far: the paths of files, and what the first header is held to be.
 #[derive(Clone, Copy)]
-pub struct Request {
-    pub out: Option<usize>,
-    pub sheet: Option<usize>,
-    pub headers: Option<usize>,
-    pub calendars: Option<usize>,
+pub struct Request<'a> {
+    pub out: Option<&'a str>,
+    pub sheet: Option<&'a str>,
+    pub headers: Option<&'a str>,
+    pub calendars: Option<&'a str>,
     pub force: bool,
     pub chain: Options,
 }
 
-// What is wrong, and the place of the option.
+// What is wrong with an option.
 #[derive(Clone, Copy)]
-pub enum Wrong {
-    Unknown(usize),
-    NoValue(usize),
+pub enum Wrong<'a> {
+    Unknown(&'a str),
+    NoValue(&'a str),
     // its value cannot be read
-    Unreadable(usize),
+    Unreadable { option: &'a str, value: &'a str },
 }
 
 // Nothing is asked for yet, and headers are those of the main chain.
-pub fn no_request() -> Request
+pub fn no_request<'a>() -> Request<'a>
     ensures { result ≡ no_request }
 {
     Request {
@@ -68,149 +58,74 @@ pub fn no_request() -> Request
     }
 }
 
-fn dashed(word: &[u8]) -> bool
-    ensures { result ≡ dashed_word word.now }
-{
-    word.len() >= 2 && word[0] == b'-' && word[1] == b'-'
-}
-
 // What a word is by its name.
 pub fn name_of(word: &str) -> Named
     ensures { result ≡ named_by word.now }
 {
-    let name = word.as_bytes();
-    if same(name, "--out".as_bytes()) {
-        return Named::File(FileOption::Out);
+    match word {
+        "--out" => Named::File(FileOption::Out),
+        "--sheet" => Named::File(FileOption::Sheet),
+        "--headers" => Named::File(FileOption::Headers),
+        "--calendars" => Named::File(FileOption::Calendars),
+        "--force" => Named::Force,
+        _ => match chain_option(word) {
+            Some(option) => Named::Chain(option),
+            None if dashed(word) => Named::Unknown,
+            None => Named::Piece,
+        },
     }
-    if same(name, "--sheet".as_bytes()) {
-        return Named::File(FileOption::Sheet);
-    }
-    if same(name, "--headers".as_bytes()) {
-        return Named::File(FileOption::Headers);
-    }
-    if same(name, "--calendars".as_bytes()) {
-        return Named::File(FileOption::Calendars);
-    }
-    chain_name(name)
 }
 
-fn chain_name(name: &[u8]) -> Named
-    ensures { result ≡ chain_named name.now }
+fn dashed(word: &str) -> bool
+    ensures { result ≡ dashed_word word.now }
 {
-    if same(name, "--base".as_bytes()) {
-        return Named::Chain(ChainOption::Base);
-    }
-    if same(name, "--previous".as_bytes()) {
-        return Named::Chain(ChainOption::Previous);
-    }
-    if same(name, "--ceiling".as_bytes()) {
-        return Named::Chain(ChainOption::Ceiling);
-    }
-    if same(name, "--force".as_bytes()) {
-        return Named::Force;
-    }
-    if dashed(name) {
-        return Named::Unknown;
-    }
-    Named::Piece
+    matches!(*word.as_bytes(), [b'-', b'-', ..])
 }
 
 // Whether a value stands behind the word.
 pub fn paired(named: Named) -> bool
     ensures { result ≡ is_paired named }
 {
-    match named {
-        Named::Piece => false,
-        Named::Force => false,
-        Named::File(_) => true,
-        Named::Chain(_) => true,
-        Named::Unknown => false,
-    }
+    matches!(named, Named::File(_) | Named::Chain(_))
 }
 
 // Whether the word is a proof.
 pub fn piece(named: Named) -> bool
     ensures { result ≡ is_piece named }
 {
-    match named {
-        Named::Piece => true,
-        Named::Force => false,
-        Named::File(_) => false,
-        Named::Chain(_) => false,
-        Named::Unknown => false,
-    }
+    matches!(named, Named::Piece)
 }
 
-fn with_file(option: FileOption, place: usize, request: Request) -> Request
-    ensures { result ≡ with_file option place request }
+fn with_file<'a>(option: FileOption, path: &'a str, request: Request<'a>) -> Request<'a>
+    ensures { result ≡ with_file option path.entry request.entry }
 {
     match option {
         FileOption::Out => Request {
-            out: Some(place),
+            out: Some(path),
             ..request
         },
         FileOption::Sheet => Request {
-            sheet: Some(place),
+            sheet: Some(path),
             ..request
         },
         FileOption::Headers => Request {
-            headers: Some(place),
+            headers: Some(path),
             ..request
         },
         FileOption::Calendars => Request {
-            calendars: Some(place),
+            calendars: Some(path),
             ..request
         },
     }
 }
 
-fn with_chain(option: ChainOption, value: &str, chain: Options) -> Option<Options>
-    ensures { result ≡ with_chain option value.now chain }
-{
-    match option {
-        ChainOption::Base => with_base(number(value), chain),
-        ChainOption::Previous => with_previous(hash(value.as_bytes()), chain),
-        ChainOption::Ceiling => with_ceiling(bits(value.as_bytes()), chain),
-    }
-}
-
-fn with_base(base: Option<u32>, chain: Options) -> Option<Options>
-    ensures { result ≡ based base chain }
-{
-    match base {
-        Some(base) => Some(Options { base, ..chain }),
-        None => None,
-    }
-}
-
-fn with_previous(previous: Option<[u8; 32]>, chain: Options) -> Option<Options>
-    ensures { result ≡ linked previous chain }
-{
-    match previous {
-        Some(previous) => Some(Options { previous, ..chain }),
-        None => None,
-    }
-}
-
-fn with_ceiling(ceiling: Option<u32>, chain: Options) -> Option<Options>
-    ensures { result ≡ capped ceiling chain }
-{
-    match ceiling {
-        Some(ceiling) => Some(Options { ceiling, ..chain }),
-        None => None,
-    }
-}
-
-// The request after the word at a place: more says whether a word stands behind it, and value is that word.
-pub fn option_step(
-    request: Request,
-    at: usize,
-    word: &str,
-    more: bool,
-    value: &str,
-) -> Result<Request, Wrong>
-    requires { at < 2 ^ 64 - 1 }
-    ensures { result ≡ stepped request at word.now more value.now }
+// The request after a word, and the word behind it if there is one.
+pub fn option_step<'a>(
+    request: Request<'a>,
+    word: &'a str,
+    value: Option<&'a str>,
+) -> Result<Request<'a>, Wrong<'a>>
+    ensures { result ≡ stepped request.entry word.entry value.entry }
 {
     match name_of(word) {
         Named::Piece => Ok(request),
@@ -219,28 +134,17 @@ pub fn option_step(
             ..request
         }),
         Named::File(option) => {
-            if more {
-                Ok(with_file(option, at + 1, request))
-            } else {
-                Err(Wrong::NoValue(at))
-            }
+            let path = value.ok_or(Wrong::NoValue(word))?;
+            Ok(with_file(option, path, request))
         }
         Named::Chain(option) => {
-            if more {
-                read(request, at, with_chain(option, value, request.chain))
-            } else {
-                Err(Wrong::NoValue(at))
-            }
+            let value = value.ok_or(Wrong::NoValue(word))?;
+            let chain = with_chain(option, value, request.chain).ok_or(Wrong::Unreadable {
+                option: word,
+                value,
+            })?;
+            Ok(Request { chain, ..request })
         }
-        Named::Unknown => Err(Wrong::Unknown(at)),
-    }
-}
-
-fn read(request: Request, at: usize, chain: Option<Options>) -> Result<Request, Wrong>
-    ensures { result ≡ read_as request at chain }
-{
-    match chain {
-        Some(chain) => Ok(Request { chain, ..request }),
-        None => Err(Wrong::Unreadable(at)),
+        Named::Unknown => Err(Wrong::Unknown(word)),
     }
 }

@@ -1,87 +1,50 @@
 // What a list of words asks for.
-ghost use Rattle.std.specs.Prelude.{◌≡◌, ◌+◌, ◌^◌, ◌<◌, ◌≤◌, ◌++◌, map, drop, IfOk, vec_len, string_bytes, OnOk};
-ghost use Rattle.report.specs.Requests.{word_at, stepped_at, request_from, request_of, pieces_of, next_place};
+ghost use Rattle.std.specs.Prelude.{◌≡◌, IfOk};
+ghost use Rattle.report.specs.Requests.{behind, request_from, request_of, pieces_of};
 
 use crate::options::{Request, Wrong, name_of, no_request, option_step, paired, piece};
 use std::alloc::{AllocError, Global};
 
-// The word at a place; empty where there is none.
-pub fn word(words: &Vec<String>, at: usize) -> &str
-    ensures { result.now ≡ word_at (map string_bytes words.now.items) at }
+// The words behind a word, without its value if it takes one.
+fn behind<'w, 'a>(word: &str, rest: &'w [&'a str]) -> &'w [&'a str]
+    ensures { result.now ≡ behind word.now rest.now }
 {
-    fetched(words, at)
-}
-
-fn fetched(words: &Vec<String>, at: usize) -> &str
-    ensures { result.now ≡ word_at (map string_bytes words.now.items) at }
-{
-    match words.get(at) {
-        Some(w) => w.as_str(),
-        None => "",
+    match rest {
+        [_, more @ ..] if paired(name_of(word)) => more,
+        _ => rest,
     }
 }
 
-// The place of the next word that is not a value.
-fn next_place(words: &Vec<String>, at: usize) -> usize
-    requires { at < vec_len words.now }
-    ensures bound { result ≤ vec_len words.now }
-    ensures more { at < result }
-    ensures value { result ≡ next_place (map string_bytes words.now.items) at }
+// The request of the words behind a command.
+pub fn parse<'a>(words: &[&'a str]) -> Result<Request<'a>, Wrong<'a>>
+    ensures { result ≡ request_of words.now }
 {
-    let behind = at + 1;
-    if behind < words.len() && paired(name_of(word(words, at))) {
-        return behind + 1;
-    }
-    behind
+    asked(words, no_request())
 }
 
-// The request after the word at a place.
-fn step_at(words: &Vec<String>, at: usize, request: Request) -> Result<Request, Wrong>
-    requires { at < vec_len words.now }
-    ensures { result ≡ stepped_at (map string_bytes words.now.items) at request }
-{
-    let more = at + 1 < words.len();
-    option_step(request, at, word(words, at), more, word(words, at + 1))
-}
-
-// The request of the words from a place on.
-pub fn parse(words: &Vec<String>, from: usize) -> Result<Request, Wrong>
-    ensures { result ≡ request_of (map string_bytes words.now.items) from }
-{
-    asked(words, from, no_request())
-}
-
-fn asked(words: &Vec<String>, from: usize, begun: Request) -> Result<Request, Wrong>
-    ensures { result ≡ request_from from begun (drop from (map string_bytes words.now.items)) }
+fn asked<'a>(words: &[&'a str], begun: Request<'a>) -> Result<Request<'a>, Wrong<'a>>
+    ensures { result ≡ request_from begun.entry words.now }
 {
     let mut request = begun;
-    let mut at = from;
-    while at < words.len() {
-        let next = step_at(words, at, request)?;
-        request = next;
-        at = next_place(words, at);
+    let mut left = words;
+    while let [word, rest @ ..] = left {
+        request = option_step(request, word, rest.first().copied())?;
+        left = behind(word, rest);
     }
     Ok(request)
 }
 
-// The places of the proofs among the words from a place on.
-pub fn pieces(heap: Global, words: &Vec<String>, from: usize) -> Result<Vec<usize>, AllocError>
-    ensures { IfOk result (λ v. v.items ≡ pieces_of (map string_bytes words.now.items) from) }
+// The proofs among the words behind a command.
+pub fn pieces<'a>(heap: Global, words: &[&'a str]) -> Result<Vec<&'a str>, AllocError>
+    ensures { IfOk result (λ v. v.items ≡ pieces_of words.now) }
 {
-    let mut places = Vec::new(heap);
-    push_pieces(&mut places, words, from)?;
-    Ok(places)
-}
-
-fn push_pieces(places: &mut Vec<usize>, words: &Vec<String>, from: usize) -> Result<(), AllocError>
-    ensures { OnOk result (places.new.items ≡ places.old.items ++ pieces_of (map string_bytes words.now.items) from) }
-{
-    let mut at = from;
-    while at < words.len() {
-        if piece(name_of(word(words, at))) {
-            places.push(at)?;
+    let mut pieces = Vec::new(heap);
+    let mut left = words;
+    while let [word, rest @ ..] = left {
+        if piece(name_of(word)) {
+            pieces.push(*word)?;
         }
-        at = next_place(words, at);
+        left = behind(word, rest);
     }
-    Ok(())
+    Ok(pieces)
 }

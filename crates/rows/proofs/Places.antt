@@ -39,9 +39,6 @@ module _ {A : Type 0} where
   nth_none (y ∷ xs) zero e = absurd (let z : ◌≡◌ {A = ℕ} 0 1 = cc in omega arith)
   nth_none (y ∷ xs) (suc k) e = let h = nth_none xs k e in omega arith
 
-  pub nth_first : (x : A) (xs ys : List A) (k : ℕ) → ys ≡ x ∷ xs → k ≡ 0 → Some x ≡ slice_get ys k
-  nth_first x xs ys k e d = sym (ap (λ z. slice_get z k) e ∙ ap (slice_get (x ∷ xs)) d)
-
   pub nth_next : (x : A) (xs ys : List A) (k j : ℕ) → ys ≡ x ∷ xs → k ≡ suc j → slice_get xs j ≡ slice_get ys k
   nth_next x xs ys k j e d = sym (ap (λ z. slice_get z k) e ∙ ap (slice_get (x ∷ xs)) d)
 

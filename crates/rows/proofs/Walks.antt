@@ -1,5 +1,5 @@
 -- A walk down a tree to a claim.
-use Rattle.std.proofs.Common.{◌≡◌, ℕ, ◌+◌, ◌-◌, ◌<◌, ◌≤◌, true, ◌&&◌, List, length, take, drop, Some, None, Option, sym, ap, ◌∙◌, subst, arith}
+use Rattle.std.proofs.Common.{◌≡◌, ℕ, ◌+◌, ◌-◌, ◌<◌, ◌≤◌, true, ◌&&◌, List, length, take, Some, None, Option, sym, ap, ◌∙◌, subst, arith}
 use Rattle.std.specs.List.{slice_get}
 use Rattle.std.proofs.lemmas.Bool.{and_parts, leb-true}
 use Rattle.format.specs.Operations.{Op}
@@ -38,18 +38,16 @@ walkable digest x h =
     }
 
 -- the claim sought is the k-th of the branches t, under done operations that have made the first size bytes of w
-pub record Walking (w₀ : List ℕ) (sought : Option Found) (w : List ℕ) (size k done : ℕ) (t : Tree) : Type 0 where
-  pub long : length w ≡ length w₀
-  pub kept : drop 4096 w ≡ drop 4096 w₀
+pub record Walking (sought : Option Found) (w : List ℕ) (size k done : ℕ) (t : Tree) : Type 0 where
   pub small : size ≤ 4096
   pub fits : branches_fit done size t ≡ true
   pub few : atts_in t ≤ 128
   pub finds : shown done (take size w) (slice_get (through t) k) ≡ sought
 
-module _ {w₀ : List ℕ} {sought : Option Found} {w : List ℕ} {size k done : ℕ} {t : Tree} {o : Op} {m : List Att} {b r : Tree} {n : ℕ}
-    (h : Walking w₀ sought w size k done t) (e : t ≡ more o m b r) (is : n ≡ length m + atts_in b) where
-  opened : Walking w₀ sought w size k done (more o m b r)
-  opened = subst (λ z. Walking w₀ sought w size k done z) e h
+module _ {sought : Option Found} {w : List ℕ} {size k done : ℕ} {t : Tree} {o : Op} {m : List Att} {b r : Tree} {n : ℕ}
+    (h : Walking sought w size k done t) (e : t ≡ more o m b r) (is : n ≡ length m + atts_in b) where
+  opened : Walking sought w size k done (more o m b r)
+  opened = subst (λ z. Walking sought w size k done z) e h
 
   pub fitting : Fits done size o m b r
   fitting = fits done size o m b r opened.fits
@@ -63,25 +61,20 @@ module _ {w₀ : List ℕ} {sought : Option Found} {w : List ℕ} {size k done :
   pub found_small : {to : ℕ} → to ≡ result_of o size → to ≤ 4096
   found_small gr = subst (λ z. z ≤ 4096) (sym gr) fitting.result
 
-  pub walk_on : n ≤ k → Walking w₀ sought w size (k - n) done r
+  pub walk_on : n ≤ k → Walking sought w size (k - n) done r
   walk_on le = record {
-    long = h.long;
-    kept = h.kept;
     small = h.small;
     fits = fitting.rest;
     few = let f = few_below in omega arith;
     finds = ap (shown done (take size w)) (passed t o m b r k n e is le) ∙ h.finds;
   }
 
-  module _ (v : List ℕ) {to : ℕ} (lt : k < n) (lv : length v ≡ length w) (kv : drop 4096 v ≡ drop 4096 w)
-      (gr : to ≡ result_of o size) (af : take to v ≡ apply o (take size w)) where
+  module _ (v : List ℕ) {to : ℕ} (lt : k < n) (gr : to ≡ result_of o size) (af : take to v ≡ apply o (take size w)) where
     below : shown (done + 1) (take to v) (slice_get (claims m b) k) ≡ sought
     below = ap (λ z. shown (done + 1) z (slice_get (claims m b) k)) af ∙ entered t o m b r k n e is done (take size w) lt ∙ h.finds
 
-    pub walk_down : {c : ℕ} → None ≡ slice_get m k → c ≡ length m → Walking w₀ sought v to (k - c) (done + 1) b
+    pub walk_down : {c : ℕ} → None ≡ slice_get m k → c ≡ length m → Walking sought v to (k - c) (done + 1) b
     walk_down {c} none ic = record {
-      long = lv ∙ h.long;
-      kept = kv ∙ h.kept;
       small = found_small gr;
       fits = subst (λ z. branches_fit (done + 1) z b ≡ true) (sym gr) fitting.below;
       few = let f = few_below in omega arith;
@@ -92,7 +85,7 @@ module _ {w₀ : List ℕ} {sought : Option Found} {w : List ℕ} {size k done :
         → ◌≡◌ {A = Option Found} (Some (record { attestation = a; operations = done + 1; message = take to v })) sought
     walk_found a at-k = shown_mark (done + 1) (take to v) m b k a at-k ∙ below
 
-pub walk_ends : {w₀ : List ℕ} {sought : Option Found} {w : List ℕ} {size k done : ℕ} {t : Tree}
-    → Walking w₀ sought w size k done t → t ≡ end → None ≡ sought
+pub walk_ends : {sought : Option Found} {w : List ℕ} {size k done : ℕ} {t : Tree}
+    → Walking sought w size k done t → t ≡ end → None ≡ sought
 unfolding through
-walk_ends {w₀} {sought} {w} {size} {k} {done} {t} h e = sym (ap (λ z. shown done (take size w) (slice_get (through z) k)) e) ∙ h.finds
+walk_ends {sought} {w} {size} {k} {done} {t} h e = sym (ap (λ z. shown done (take size w) (slice_get (through z) k)) e) ∙ h.finds

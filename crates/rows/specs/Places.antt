@@ -1,11 +1,9 @@
 -- What a walk finds, and the row that a judge makes of it.
-use Rattle.std.specs.Prelude.{◌≡◌, ℕ, ◌+◌, ◌≤◌, true, List, length, take, Some, None, Option}
+use Rattle.std.specs.Prelude.{ℕ, ◌+◌, List, length, take, Some, None, Option}
 use Rattle.std.specs.Borrow.{Bor}
-use Rattle.format.specs.Operations.{message_limit}
 use Rattle.format.specs.Attestations.{Att}
 use Rattle.format.specs.Nodes.{Claim}
 use Rattle.claim_trees.specs.Bytes.{payload_of}
-use Rattle.claim_trees.specs.Lawful.{att_fits}
 use Rattle.claim_trees.specs.Order.{tag_of}
 use Rattle.claims.specs.declared.tree.Attestation.{Attestation}
 use Rattle.claims.specs.Models.{att}
@@ -38,11 +36,6 @@ abbrev pub shown : ℕ → List ℕ → Option Claim → Option Found
 shown done message None = None
 shown done message (Some c) =
     Some (record { attestation = c.attestation; operations = done + length c.path; message = replay c.path message })
-
--- the attestation is one that a proof file can hold, and its message is within the limit
-abbrev pub Sound : Option Place → Type 0
-Sound None = Unit {0}
-Sound (Some p) = (att_fits (att p.attestation.now) ≡ true) × (p.size ≤ message_limit)
 
 -- the row that a judge of this meaning makes of it
 abbrev pub row_at : Meaning → Found → Row

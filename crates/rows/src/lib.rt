@@ -1,13 +1,12 @@
 // The rows of a tree of claims, and their tally: what a judge says of each claim, in written order.
 #![tactic(auto)]
 
-ghost use Rattle.std.specs.Prelude.{◌≡◌, ◌^◌, ◌<◌, ◌≤◌, true, length, drop};
+ghost use Rattle.std.specs.Prelude.{◌≡◌, ◌^◌, ◌<◌, ◌≤◌, length, drop};
 ghost use Rattle.std.specs.List.{slice_get};
-ghost use Rattle.claims.specs.Models.{node};
-ghost use Rattle.runs.specs.Contents.{about};
-ghost use Rattle.runs.specs.Invariants.{keeps_tree};
 ghost use Rattle.runs.specs.Reports.{counted, rows_in, tally_in};
+ghost use Rattle.rows.specs.Models.{content_about};
 
+pub mod held;
 mod judging;
 mod nodes;
 mod place;
@@ -15,46 +14,59 @@ mod steps;
 mod tallies;
 mod walk;
 
-use claims::tree::Node;
+use held::About;
 use judge::judge::Judge;
 use judge::verdict::Verdict;
 use judging::row_at;
+use nodes::count_node;
+use replay::ROOM;
 use runs::report::{Row, Tally};
-use tallies::{earlier, tally_from};
+use tallies::earlier;
 use walk::place_of;
 
-// The k-th row, or none. Its message is worked in the first 4,096 bytes of the area.
-pub fn row_of<J: Judge>(
-    judge: &J,
-    digest: &[u8],
-    top: &Node,
-    k: usize,
-    work: &mut [u8],
-) -> Option<Row>
-    requires { (4096 ≤ length work.old) × (keeps_tree digest.now (node top.now) ≡ true) }
-    ensures value { result ≡ slice_get (rows_in (J.meaning judge.now) (about digest.now (node top.now))) k }
+// The area that messages are worked in: as many bytes as the longest message has.
+pub type Area = [u8; ROOM];
+
+// The k-th row, or none. Its message is worked in the first 4,096 bytes of the lent area.
+pub fn row_of<J: Judge>(judge: &J, about: &About, k: usize, work: &mut [u8]) -> Option<Row>
+    requires { 4096 ≤ length work.old }
+    ensures value { result ≡ slice_get (rows_in (J.meaning judge.now) (content_about about.now)) k }
     ensures kept { drop 4096 work.new ≡ drop 4096 work.old }
 {
-    match place_of(digest, top, k, work) {
-        Some(place) => Some(row_at(judge, place, work)),
-        None => None,
-    }
+    let Some(area) = work.first_chunk_mut::<ROOM>() else {
+        unreachable!()
+    };
+    row_in(judge, about, k, area)
 }
 
-// The tally of all rows: each is read by its number, from 0 until there is none.
-pub fn tally_of<J: Judge>(judge: &J, digest: &[u8], top: &Node, work: &mut [u8]) -> Tally
-    requires { (4096 ≤ length work.old) × (keeps_tree digest.now (node top.now) ≡ true) }
-    ensures value { result ≡ tally_in (J.meaning judge.now) (about digest.now (node top.now)) }
+// The tally of all rows, worked likewise.
+pub fn tally_of<J: Judge>(judge: &J, about: &About, work: &mut [u8]) -> Tally
+    requires { 4096 ≤ length work.old }
+    ensures value { result ≡ tally_in (J.meaning judge.now) (content_about about.now) }
     ensures kept { drop 4096 work.new ≡ drop 4096 work.old }
 {
-    let none = Tally {
-        confirmed: 0,
-        rejected: 0,
-        waiting: 0,
-        foreign: 0,
-        date: None,
+    let Some(area) = work.first_chunk_mut::<ROOM>() else {
+        unreachable!()
     };
-    tally_from(judge, digest, top, 0, none, work)
+    tally_in(judge, about, area)
+}
+
+fn row_in<J: Judge>(judge: &J, about: &About, k: usize, area: &mut Area) -> Option<Row>
+    ensures { result ≡ slice_get (rows_in (J.meaning judge.now) (content_about about.now)) k }
+{
+    let place = place_of(about, k, area)?;
+    Some(row_at(judge, place, area))
+}
+
+fn tally_in<J: Judge>(judge: &J, about: &About, area: &mut Area) -> Tally
+    ensures { result ≡ tally_in (J.meaning judge.now) (content_about about.now) }
+{
+    let mut tally = Tally::default();
+    for k in 0..count_node(&about.top) {
+        let row = row_in(judge, about, k, area).unwrap();
+        tally = counted(tally, k, row.verdict);
+    }
+    tally
 }
 
 // What a tally counts with one row more.

@@ -2,7 +2,7 @@
 ghost use Rattle.std.specs.Prelude.{◌≡◌, ◌+◌, ◌^◌, ◌<◌, length};
 ghost use Rattle.std.specs.List.{slice_get};
 ghost use Rattle.claim_trees.specs.Size.{atts_in};
-ghost use Rattle.claims.specs.Models.{atts, tree};
+ghost use Rattle.claims.specs.Models.{atts, tree, node as node_of};
 ghost use Rattle.rows.specs.Places.{marked};
 
 use claims::tree::{Attestation, Branches, Marks, Node};
@@ -12,8 +12,8 @@ pub(crate) fn count_marks(marks: &Marks) -> usize
     ensures { result ≡ length (atts marks.now) }
 {
     match marks {
-        Marks::Done => 0,
-        Marks::Next(mark) => 1 + count_marks(&mark.rest),
+        None => 0,
+        Some(mark) => 1 + count_marks(&mark.rest),
     }
 }
 
@@ -22,8 +22,8 @@ fn count_branches(branches: &Branches) -> usize
     ensures { result ≡ atts_in (tree branches.now) }
 {
     match branches {
-        Branches::End => 0,
-        Branches::More(branch) => {
+        None => 0,
+        Some(branch) => {
             let marks = count_marks(&branch.below.marks);
             let below = count_branches(&branch.below.branches);
             marks + (below + count_branches(&branch.rest))
@@ -33,8 +33,8 @@ fn count_branches(branches: &Branches) -> usize
 
 // The claims of a node and of all below it.
 pub(crate) fn count_node(node: &Node) -> usize
-    requires { length (atts node.now.marks) + atts_in (tree node.now.branches) < 2 ^ 64 }
-    ensures { result ≡ length (atts node.now.marks) + atts_in (tree node.now.branches) }
+    requires { length (node_of node.now).marks + atts_in (node_of node.now).branches < 2 ^ 64 }
+    ensures { result ≡ length (node_of node.now).marks + atts_in (node_of node.now).branches }
 {
     count_marks(&node.marks) + count_branches(&node.branches)
 }
@@ -43,14 +43,10 @@ pub(crate) fn count_node(node: &Node) -> usize
 pub(crate) fn mark_at(marks: &Marks, k: usize) -> Option<&Attestation>
     ensures { marked result ≡ slice_get (atts marks.now) k }
 {
-    match marks {
-        Marks::Done => None,
-        Marks::Next(mark) => {
-            if k == 0 {
-                Some(&mark.attestation)
-            } else {
-                mark_at(&mark.rest, k - 1)
-            }
-        }
+    let mark = marks.as_ref()?;
+    if k == 0 {
+        Some(&mark.attestation)
+    } else {
+        mark_at(&mark.rest, k - 1)
     }
 }

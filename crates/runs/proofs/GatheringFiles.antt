@@ -1,8 +1,7 @@
 -- A dossier holds exactly the claims of the files that were granted.
-use Rattle.std.proofs.Common.{◌≡◌, ℕ, true, eqb, List, [], ◌∷◌, Some, None, Option, sym, refl, ap, ◌∙◌, subst, inl, inr, ⊎_elim}
-use Rattle.std.proofs.lemmas.Bool.{and_parts, eqb-true}
+use Rattle.std.proofs.Common.{◌≡◌, ℕ, true, List, [], ◌∷◌, Some, None, Option, sym, refl, ap, ◌∙◌, subst, inl, inr, ⊎_elim}
+use Rattle.std.proofs.lemmas.Slice.Eq.{bytes_eq-Decides}
 use Rattle.format.specs.Outcome.{Outcome, got}
-use Rattle.format.specs.Attestations.{same}
 use Rattle.format.specs.Nodes.{Claim}
 use Rattle.format.specs.Files.{Said, file_at}
 use Rattle.format.specs.FirstFault.{Iff}
@@ -49,18 +48,9 @@ gathered_other es e s never g =
 
 -- ---- a granted add
 
-same_bytes : (xs ys : List ℕ) → same xs ys ≡ true → xs ≡ ys
-unfolding same
-same_bytes [] [] h = refl
-same_bytes [] (y ∷ ys) h = differ (cc)
-same_bytes (x ∷ xs) [] h = differ (cc)
-same_bytes (x ∷ xs) (y ∷ ys) h =
-    let p = and_parts (eqb x y) (same xs ys) h in
-    let e = eqb-true x y p.0 in let d = same_bytes xs ys p.1 in cc
-
 agreed : (s : Content) (d e : List ℕ) → agrees s d ≡ true → digest_in s ≡ Some e → d ≡ e
 agreed blank d e a k = differ (cc)
-agreed (about own x) d e a k = let q = same_bytes own d a in cc
+agreed (about own x) d e a k = let q = (bytes_eq-Decides own d).0 a in cc
 
 -- the claims in written order are those of the tree
 tree_claims : (s : Content) → claims_in s ≡ claims_of (tree_in s)

@@ -2,7 +2,7 @@
 use judge::verdict::Verdict;
 
 // A claim as a row: the tag of its attestation, how many operations lead to it, and its verdict.
-#[derive(Clone, Copy, Debug)]
+#[derive(Clone, Copy, Debug, PartialEq, Eq)]
 pub struct Row {
     pub tag: [u8; 8],
     pub operations: usize,
@@ -17,7 +17,7 @@ pub struct Date {
 }
 
 // The number of claims under each verdict, and the first date: the least time that is confirmed, and the lowest row that has it.
-#[derive(Clone, Copy, Debug, PartialEq, Eq)]
+#[derive(Clone, Copy, Debug, Default, PartialEq, Eq)]
 pub struct Tally {
     pub confirmed: usize,
     pub rejected: usize,

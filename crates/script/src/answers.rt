@@ -1,8 +1,7 @@
 // The text of an answer: the same in every implementation.
-ghost use Rattle.std.specs.Prelude.{◌≡◌, IfOk, string_bytes};
+ghost use Rattle.std.specs.Prelude.{◌≡◌, Some, IfOk, MatchResult, string_bytes};
+ghost use Rattle.std.specs.Fn.{FnOnceReturnsAt};
 ghost use Rattle.runs.specs.Sheets.{verdict_text};
-ghost use Rattle.account.specs.Words.{hex_of};
-ghost use Rattle.sha256.specs.Sha256.{sha256 as hash_of};
 ghost use Rattle.script.specs.Answers.{remark_text, refused_text, refusal_text, added_text, granted_row, row_text, counts_text, date_text, granted_tally, tally_text, hash_text, size_text, bytes_text};
 
 use account::words::hex;
@@ -11,6 +10,7 @@ use judge::verdict::Verdict;
 use runs::report::{Date, Row, Tally};
 use sha256::sha256;
 use std::alloc::{AllocError, Global};
+use std::fmt;
 
 // What is said of a line that is neither granted nor refused.
 #[derive(Clone, Copy)]
@@ -27,15 +27,17 @@ pub enum Remark {
     Unwritten,
 }
 
-pub fn remark_text(said: Remark) -> &'static str
-    ensures { result.now ≡ remark_text said }
-{
-    match said {
-        Remark::WhileSettled => "not taken while settled",
-        Remark::WhileOpen => "not taken while open",
-        Remark::NoCall => "not a call",
-        Remark::Unread => "cannot be read",
-        Remark::Unwritten => "cannot be written",
+impl fmt::Display for Remark {
+    ghost output = { λ said. Some (remark_text said) };
+
+    fn fmt<W: fmt::Write>(&self, f: &mut fmt::Formatter<W>) -> fmt::Result {
+        f.write_str(match self {
+            Remark::WhileSettled => "not taken while settled",
+            Remark::WhileOpen => "not taken while open",
+            Remark::NoCall => "not a call",
+            Remark::Unread => "cannot be read",
+            Remark::Unwritten => "cannot be written",
+        })
     }
 }
 
@@ -51,10 +53,22 @@ fn refused_text(heap: Global, place: Option<(u8, usize)>) -> Result<String, Allo
 {
     match place {
         Some((number, offset)) => format!(in heap; "refused {number} at {offset}"),
-        None => {
-            let want = "want of memory";
-            format!(in heap; "refused for {want}")
-        }
+        None => String::from_str(heap, "refused for want of memory"),
+    }
+}
+
+// The text of what is granted, or of the refusal.
+fn answer_text<T, F: FnOnce(&T) -> Result<String, AllocError>>(
+    heap: Global,
+    answer: &Result<T, Refusal>,
+    granted: F,
+) -> Result<String, AllocError>
+    requires { F.IsAlwaysCallable granted }
+    ensures { MatchResult answer.now (λ x. FnOnceReturnsAt F.FnOnce granted x result) (λ e. IfOk result (λ s. string_bytes s ≡ refusal_text e)) }
+{
+    match answer {
+        Ok(value) => granted(value),
+        Err(refusal) => refusal_text(heap, refusal),
     }
 }
 
@@ -62,12 +76,10 @@ fn refused_text(heap: Global, place: Option<(u8, usize)>) -> Result<String, Allo
 pub fn added_text(heap: Global, answer: &Result<(), Refusal>) -> Result<String, AllocError>
     ensures { IfOk result (λ s. string_bytes s ≡ added_text answer.now) }
 {
-    match *answer {
-        Ok(()) => String::from_str(heap, "granted"),
-        Err(refusal) => refusal_text(heap, &refusal),
-    }
+    answer_text(heap, answer, |_| String::from_str(heap, "granted"))
 }
 
+// Kept: an impl of Display would stand in the crate that has the type, and the answers' words are the program's own.
 fn verdict_text(heap: Global, verdict: Verdict) -> Result<String, AllocError>
     ensures { IfOk result (λ s. string_bytes s ≡ verdict_text verdict) }
 {
@@ -92,19 +104,20 @@ fn granted_row(heap: Global, row: &Row) -> Result<String, AllocError>
 pub fn row_text(heap: Global, answer: &Result<Row, Refusal>) -> Result<String, AllocError>
     ensures { IfOk result (λ s. string_bytes s ≡ row_text answer.now) }
 {
-    match *answer {
-        Ok(row) => granted_row(heap, &row),
-        Err(refusal) => refusal_text(heap, &refusal),
-    }
+    answer_text(heap, answer, |row| granted_row(heap, row))
 }
 
+// Kept: with the comma of `report`'s line as a parameter the format would no longer read as what is printed.
 fn counts_text(heap: Global, tally: &Tally) -> Result<String, AllocError>
     ensures { IfOk result (λ s. string_bytes s ≡ counts_text tally.now) }
 {
-    let confirmed = tally.confirmed;
-    let rejected = tally.rejected;
-    let waiting = tally.waiting;
-    let foreign = tally.foreign;
+    let Tally {
+        confirmed,
+        rejected,
+        waiting,
+        foreign,
+        ..
+    } = *tally;
     format!(in heap;
         "confirmed {confirmed} rejected {rejected} waiting {waiting} foreign {foreign}"
     )
@@ -131,23 +144,13 @@ fn granted_tally(heap: Global, tally: &Tally) -> Result<String, AllocError>
 pub fn tally_text(heap: Global, answer: &Result<Tally, Refusal>) -> Result<String, AllocError>
     ensures { IfOk result (λ s. string_bytes s ≡ tally_text answer.now) }
 {
-    match *answer {
-        Ok(tally) => granted_tally(heap, &tally),
-        Err(refusal) => refusal_text(heap, &refusal),
-    }
-}
-
-fn hash_digits(heap: Global, bytes: &[u8]) -> Result<String, AllocError>
-    ensures { IfOk result (λ s. string_bytes s ≡ hex_of (hash_of bytes.now)) }
-{
-    let hash = sha256(bytes);
-    hex(heap, &hash)
+    answer_text(heap, answer, |tally| granted_tally(heap, tally))
 }
 
 fn hash_text(heap: Global, bytes: &[u8]) -> Result<String, AllocError>
     ensures { IfOk result (λ s. string_bytes s ≡ hash_text bytes.now) }
 {
-    let hash = hash_digits(heap, bytes)?;
+    let hash = hex(heap, &sha256(bytes))?;
     format!(in heap; "sha256 {hash}")
 }
 

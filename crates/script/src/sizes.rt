@@ -3,17 +3,9 @@ ghost use Rattle.std.specs.Prelude.{◌≡◌};
 ghost use Rattle.script.specs.Sizes.{size_read};
 
 // A decimal number; a plus may stand before it.
+// Kept: a generic one beside `number` of `coverage` would be `parse` itself, and its clause would not say which texts are read.
 pub fn size(text: &str) -> Option<usize>
     ensures { result ≡ size_read text.now }
 {
-    decimal(text)
-}
-
-fn decimal(text: &str) -> Option<usize>
-    ensures { result ≡ size_read text.now }
-{
-    match text.parse::<usize>() {
-        Ok(n) => Some(n),
-        Err(_) => None,
-    }
+    text.parse().ok()
 }

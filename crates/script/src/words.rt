@@ -1,73 +1,50 @@
 // The words of a line.
-ghost use Rattle.std.specs.Prelude.{◌≡◌, ◌+◌, ◌<◌, ◌≤◌, length};
-ghost use Rattle.script.specs.Words.{words_of, first_of, behind_of, Split};
+ghost use Rattle.std.specs.Prelude.{◌≡◌, length};
+ghost use Rattle.script.specs.Words.{words_of, word_at, Split, first_nine};
 
-use crate::line::Words;
+use std::array;
 
-// A word, and the text behind it; both are empty where there is none.
+// One word more than a call has, so that a longer line shows.
+const MOST: usize = 9;
+
+// The words of a line: how many there are, and the first nine; those that are not there are empty.
 #[derive(Clone, Copy)]
-struct Next<'a> {
-    word: &'a str,
-    rest: &'a str,
+pub struct Words<'a> {
+    pub count: usize,
+    pub first: [&'a str; MOST],
+}
+
+impl<'a> Words<'a> {
+    // The words, or the first nine of more.
+    pub fn as_slice(&self) -> &[&'a str]
+        ensures { result.now ≡ first_nine self.now }
+    {
+        &self.first[..self.count.min(MOST)]
+    }
 }
 
 // The words of a line, which spaces part.
 pub fn split<'a>(text: &'a str) -> Words<'a>
     ensures { Split (words_of text.now) result }
 {
-    let a = next_word(text);
-    let b = next_word(a.rest);
-    let c = next_word(b.rest);
-    let d = next_word(c.rest);
-    let e = next_word(d.rest);
-    let f = next_word(e.rest);
-    let g = next_word(f.rest);
-    let h = next_word(g.rest);
     Words {
         count: count(text),
-        w0: a.word,
-        w1: b.word,
-        w2: c.word,
-        w3: d.word,
-        w4: e.word,
-        w5: f.word,
-        w6: g.word,
-        w7: h.word,
+        first: array::from_fn(|k| word(text, k)),
     }
 }
 
-fn next_word<'a>(text: &'a str) -> Next<'a>
-    ensures word { result.word.now ≡ first_of (words_of text.now) }
-    ensures rest { words_of result.rest.now ≡ behind_of (words_of text.now) }
-    ensures bound { length result.word.now + length result.rest.now ≤ length text.now }
+// The word at a place; empty where there is none. A line is short, so each is looked for from the beginning.
+fn word<'a>(text: &'a str, k: usize) -> &'a str
+    ensures { result.now ≡ word_at k (words_of text.now) }
 {
-    let mut left = text;
-    while let Some((front, behind)) = left.split_once(' ') {
-        if front.len() > 0 {
-            return Next {
-                word: front,
-                rest: behind,
-            };
-        }
-        left = behind;
-    }
-    Next {
-        word: left,
-        rest: "",
-    }
+    text.split(' ')
+        .filter(|word| !word.is_empty())
+        .nth(k)
+        .unwrap_or("")
 }
 
 fn count(text: &str) -> usize
     ensures { result ≡ length (words_of text.now) }
 {
-    let mut n = 0;
-    let mut left = text;
-    loop {
-        let next = next_word(left);
-        if next.word.len() == 0 {
-            return n;
-        }
-        n += 1;
-        left = next.rest;
-    }
+    text.split(' ').filter(|word| !word.is_empty()).count()
 }

@@ -1,7 +1,8 @@
 -- The blocks of a message in two parts, and the law of the padding.
-use Rattle.std.proofs.Common.{◌≡◌, ℕ, zero, suc, ◌+◌, ◌-◌, ◌*◌, ◌/◌, ◌%◌, ◌≤◌, List, ◌++◌, length, take, drop, sym, refl, ap, ◌∙◌, add-zero, add-suc, arith}
+use Rattle.std.proofs.Common.{◌≡◌, ℕ, zero, suc, ◌+◌, ◌-◌, ◌*◌, ◌/◌, ◌%◌, ◌≤◌, List, ◌++◌, length, take, drop, sym, refl, ap, ◌∙◌, fold, add-zero, add-suc, arith}
 use Rattle.std.proofs.lemmas.List.{take-append-le, drop-append-le, drop-drop, drop_at, length-drop, take-append-drop, length-take-le, append_assoc, length-append, length-replicate}
-use Rattle.sha256.specs.Sha256.{H0, zeros, padding, padded, hash_value, PaddingIsLeast}
+use Rattle.std.specs.Simd.{first_chunks}
+use Rattle.sha256.specs.Sha256.{H0, zeros, padding, padded, block_step, hash_value, PaddingIsLeast}
 
 -- what follows the blocks does not matter
 hash_value_front :
@@ -12,6 +13,16 @@ hash_value_front hash a b (suc n) h =
     let le : 64 * n ≤ length a = omega arith in
     let room : 64 ≤ length (drop (64 * n) a) = simp length-drop (omega arith) in
     rw (hash_value_front hash a b n le, drop-append-le (64 * n) a b le, take-append-le 64 (drop (64 * n) a) b room)
+
+-- the first block, then more
+hash_value_after :
+    (hash bytes : List ℕ) (n : ℕ) → hash_value hash bytes (suc n) ≡ hash_value (block_step hash (take 64 bytes)) (drop 64 bytes) n
+unfolding hash_value
+hash_value_after hash bytes zero = refl
+hash_value_after hash bytes (suc n) =
+    let behind : drop (64 * suc n) bytes ≡ drop (64 * n) (drop 64 bytes) =
+    ap (λ k. drop k bytes) (omega arith) ∙ sym (drop-drop (64 * n) 64 bytes) in
+    rw (hash_value_after hash bytes n, behind)
 
 -- whole blocks, then more
 hash_value_append :
@@ -24,6 +35,14 @@ hash_value_append hash a b q (suc n) h =
     ap (λ k. drop k (a ++ b)) (omega arith) ∙ sym (drop-drop (64 * n) (64 * q) (a ++ b))
     ∙ ap (drop (64 * n)) (drop_at a b (64 * q) h) in
     rw (add-suc, hash_value_append hash a b q n h, behind)
+
+-- the blocks in a row, each taken by a step
+pub fold_blocks :
+    (hash bytes : List ℕ) (n : ℕ) → fold block_step hash (first_chunks 64 n bytes) ≡ hash_value hash bytes n
+unfolding hash_value
+fold_blocks hash bytes zero = refl
+fold_blocks hash bytes (suc n) =
+    fold_blocks (block_step hash (take 64 bytes)) (drop 64 bytes) n ∙ sym (hash_value_after hash bytes n)
 
 -- the message's whole blocks, and then its end with the padding
 pub hash_value_padded :
@@ -48,9 +67,13 @@ hash_value_padded m tail e =
     ap (λ x. hash_value x tail (length tail / 64)) front ∙ sym (hash_value_append H0 a tail q (length tail / 64) long)
     ∙ ap (λ x. hash_value H0 x (q + length tail / 64)) (sym all) ∙ ap (hash_value H0 (padded m)) (sym n)
 
-length_padded : (m : List ℕ) → length (padded m) ≡ length m + (zeros (length m) + 9)
+-- the padding is at least the byte 80 and eight bytes
+pub length_padding : (n : ℕ) → length (padding n) ≡ zeros n + 9
 unfolding padding
-length_padded m = simp (length-append, length-replicate) (omega arith)
+length_padding n = simp (length-append, length-replicate) (omega arith)
+
+length_padded : (m : List ℕ) → length (padded m) ≡ length m + (zeros (length m) + 9)
+length_padded m = simp (length-append, length_padding) refl
 
 pub padding_least : PaddingIsLeast
 padding_least m =

@@ -3,3 +3,4 @@ mod Windows
 mod Rounds
 mod Blocks
 mod Tails
+mod Calls

@@ -1,5 +1,5 @@
 -- Rounds in runs of sixteen, each over its own row of constants and its own window.
-use Rattle.std.proofs.Common.{◌≡◌, ℕ, zero, suc, ◌+◌, ◌-◌, ◌<◌, ◌≤◌, List, [], ◌∷◌, ◌++◌, length, get_or, take, drop, sym, refl, ap, ◌∙◌, add-zero, add-suc, arith}
+use Rattle.std.proofs.Common.{◌≡◌, ℕ, zero, suc, ◌+◌, ◌-◌, ◌*◌, ◌<◌, ◌≤◌, List, [], ◌∷◌, ◌++◌, length, get_or, take, drop, sym, refl, ap, ◌∙◌, add-zero, add-suc, arith}
 use Rattle.std.proofs.lemmas.List.{get_or-drop, get_or-take, get_or_append_left}
 use Rattle.sha256.specs.Sha256.{K, scheduled, extended, round, rounds}
 use Rattle.sha256.specs.Working.{window}
@@ -46,6 +46,13 @@ rounds_take v k w m (suc n) h =
     let lt : n < m = omega arith in
     let le : n ≤ m = omega arith in
     rw (rounds_take v k w m n le, get_or-take m k n 0 lt)
+
+-- the constants in rows of sixteen; the first row stands by itself
+pub row_at : (i : ℕ) (d : List ℕ) → i < 3 → get_or (take 16 (drop 16 K) ∷ take 16 (drop 32 K) ∷ take 16 (drop 48 K) ∷ []) i d ≡ take 16 (drop (16 * (i + 1)) K)
+row_at zero d h = refl
+row_at (suc zero) d h = refl
+row_at (suc (suc zero)) d h = refl
+row_at (suc (suc (suc i))) d h = absurd (omega arith)
 
 -- sixteen rounds more, from some round on, take the window that begins with that round's word
 pub rounds_window :

@@ -1,6 +1,8 @@
 -- Bytes written over others: the last blocks as they are made, and the digest word by word.
-use Rattle.std.proofs.Common.{◌≡◌, ℕ, suc, ◌+◌, ◌-◌, ◌≤◌, List, [], ◌∷◌, ◌++◌, length, take, drop, set, replicate, refl, ap, ◌∙◌, arith}
-use Rattle.std.proofs.lemmas.List.{take_at, length-append, length-take-le, length-drop, append_assoc, set_at, drop-replicate, length-replicate, replicate-append-replicate}
+use Rattle.std.proofs.Common.{◌≡◌, ℕ, suc, ◌+◌, ◌-◌, ◌/◌, ◌%◌, ◌≤◌, List, ◌∷◌, ◌++◌, map, length, get_or, take, drop, set, replicate, sym, refl, ap, ◌∙◌, subst, arith}
+use Rattle.std.specs.List.{range_with_len}
+use Rattle.std.proofs.lemmas.List.FromFn.{fill_by_all}
+use Rattle.std.proofs.lemmas.List.{take_at, length-append, length-take-le, length-drop, drop_all, append-nil, append_assoc, set_at, drop-replicate, length-replicate, replicate-append-replicate}
 use Rattle.sha256.specs.Words.{word_bytes}
 use Rattle.sha256.specs.Sha256.{digest}
 use Rattle.sha256.specs.Working.{overwritten}
@@ -12,20 +14,12 @@ length_overwritten xs i ys h =
     let front : length (take i xs) ≡ i = length-take-le i xs (omega arith) in
     simp (length-append, front, length-drop) (omega arith)
 
--- up to the end of what was written
-pub take_overwritten :
-    (xs : List ℕ) (i : ℕ) (ys : List ℕ) (n : ℕ)
-    → n ≡ i + length ys → n ≤ length xs → take n (overwritten xs i ys) ≡ take i xs ++ ys
-unfolding overwritten
-take_overwritten xs i ys n e h =
-    let front : length (take i xs) ≡ i = length-take-le i xs (omega arith) in
-    let both : length (take i xs ++ ys) ≡ n = simp (length-append, front) (omega arith) in
-    rw (← append_assoc) (take_at (take i xs ++ ys) (drop (i + length ys) xs) n both)
-
-pub digest_push : (xs : List ℕ) (x : ℕ) → digest (xs ++ x ∷ []) ≡ digest xs ++ word_bytes x
+-- the bytes of eight words, each at its place
+pub digest_is : (hash : List ℕ) → length hash ≡ 8 → map (λ i. get_or (word_bytes (get_or hash (i / 4) 0)) (i % 4) 0) (range_with_len 0 32) ≡ digest hash
 unfolding digest
-digest_push [] x = refl
-digest_push (y ∷ ys) x = ap (λ zs. word_bytes y ++ zs) (digest_push ys x)
+digest_is hash h =
+    let P : List ℕ → Type 0 = λ x. map (λ i. get_or (word_bytes (get_or x (i / 4) 0)) (i % 4) 0) (range_with_len 0 32) ≡ digest x in
+    subst P (sym (fill_by_all (λ i. get_or hash i 0) hash 8 0 h (λ k lt. refl))) refl
 
 -- some of the zeros after the byte 80, and the others
 zeros_apart :
@@ -35,27 +29,28 @@ zeros_apart rest m n = rw (append_assoc, ← replicate-append-replicate)
 -- the end of a message, the byte 80 and eight bytes of length, written over zeros
 pub tail_is :
     (rest bits : List ℕ) (n e : ℕ)
-    → length rest ≡ n → n + 9 ≤ e → e ≤ 128 → length bits ≡ 8
-    → take e (overwritten (set (overwritten (replicate 128 0) 0 rest) n 0x80) (e - 8) bits)
+    → length rest ≡ n → n + 9 ≤ e → length bits ≡ 8
+    → overwritten (set (overwritten (replicate e 0) 0 rest) n 0x80) (e - 8) bits
     ≡ rest ++ (0x80 ∷ (replicate (e - 9 - n) 0 ++ bits))
 unfolding overwritten
-tail_is rest bits n e r low high l =
+tail_is rest bits n e r low l =
     let z : ℕ → List ℕ = λ k. replicate k 0 in
     let some = rest ++ 0x80 ∷ z (e - 9 - n) in
-    let all = rest ++ 0x80 ∷ z (127 - n) in
+    let all = rest ++ 0x80 ∷ z (e - 1 - n) in
     let start : 0 + length rest ≡ n = omega arith in
-    let left : 128 - n ≡ suc (127 - n) = omega arith in
-    let behind : drop (0 + length rest) (z 128) ≡ 0 ∷ z (127 - n) =
-    ap (λ k. drop k (z 128)) start ∙ drop-replicate n 128 0 ∙ ap z left in
-    let marked : set (rest ++ drop (0 + length rest) (z 128)) n 0x80 ≡ all =
-    ap (λ t. set (rest ++ t) n 0x80) behind ∙ set_at rest 0 (z (127 - n)) 0x80 n r in
-    let sum : 127 - n ≡ (e - 9 - n) + (136 - e) = omega arith in
-    let parts : all ≡ some ++ z (136 - e) =
-    ap (λ k. rest ++ 0x80 ∷ z k) sum ∙ zeros_apart rest (e - 9 - n) (136 - e) in
+    let left : e - n ≡ suc (e - 1 - n) = omega arith in
+    let behind : drop (0 + length rest) (z e) ≡ 0 ∷ z (e - 1 - n) =
+    ap (λ k. drop k (z e)) start ∙ drop-replicate n e 0 ∙ ap z left in
+    let marked : set (rest ++ drop (0 + length rest) (z e)) n 0x80 ≡ all =
+    ap (λ t. set (rest ++ t) n 0x80) behind ∙ set_at rest 0 (z (e - 1 - n)) 0x80 n r in
+    let sum : e - 1 - n ≡ (e - 9 - n) + 8 = omega arith in
+    let parts : all ≡ some ++ z 8 =
+    ap (λ k. rest ++ 0x80 ∷ z k) sum ∙ zeros_apart rest (e - 9 - n) 8 in
     let long-some : length some ≡ e - 8 = simp (length-append, length-replicate) (omega arith) in
-    let long-all : length all ≡ 128 = simp (length-append, length-replicate) (omega arith) in
-    ap (λ t. take e (overwritten t (e - 8) bits)) marked
-    ∙ take_overwritten all (e - 8) bits e (omega arith) (omega arith)
+    let short-all : length all ≤ e - 8 + length bits = simp (length-append, length-replicate) (omega arith) in
+    ap (λ t. overwritten t (e - 8) bits) marked
+    ∙ ap (λ t. take (e - 8) all ++ (bits ++ t)) (drop_all (e - 8 + length bits) all short-all)
+    ∙ ap (λ t. take (e - 8) all ++ t) (append-nil bits)
     ∙ ap (λ t. take (e - 8) t ++ bits) parts
-    ∙ ap (λ t. t ++ bits) (take_at some (z (136 - e)) (e - 8) long-some)
+    ∙ ap (λ t. t ++ bits) (take_at some (z 8) (e - 8) long-some)
     ∙ simp append_assoc

@@ -14,6 +14,7 @@ pub(crate) fn majority(x: u32, y: u32, z: u32) -> u32
     (x & y) ^ (x & z) ^ (y & z)
 }
 
+// Kept: four functions of the standard by their names; one with three numbers as parameters would be no plainer.
 pub(crate) fn big_sigma0(x: u32) -> u32
     ensures { result ≡ big_sigma0 x }
 {

@@ -12,7 +12,8 @@ mod schedule;
 
 use compression::compress_blocks;
 use constants::FIRST;
-use padding::{last_blocks, overwrite};
+use padding::last_blocks;
+use std::array;
 
 // Whole blocks are read where they stand in the message; only its end is copied, to be padded.
 fn final_hash(message: &[u8]) -> [u32; 8]
@@ -20,20 +21,19 @@ fn final_hash(message: &[u8]) -> [u32; 8]
 {
     let n = message.len();
     let whole = compress_blocks(FIRST, message);
-    let last = last_blocks(&message[n - n % 64..n], n);
-    compress_blocks(whole, &last.bytes[0..last.end])
+    let rest = &message[n - n % 64..];
+    if rest.len() < 56 {
+        compress_blocks(whole, &last_blocks::<64>(rest, n))
+    } else {
+        compress_blocks(whole, &last_blocks::<128>(rest, n))
+    }
 }
 
 // The eight words as bytes, the high byte of each first.
 fn digest_bytes(hash: [u32; 8]) -> [u8; 32]
     ensures { result ≡ digest hash }
 {
-    let mut out = [0; 32];
-    for i in 0..8 {
-        let word = hash[i].to_be_bytes();
-        overwrite(&mut out, 4 * i, &word);
-    }
-    out
+    array::from_fn(|i| hash[i / 4].to_be_bytes()[i % 4])
 }
 
 // The SHA-256 digest of `message`.

@@ -1,6 +1,6 @@
 -- Hexadecimal digits, put byte by byte.
-use Rattle.std.proofs.Common.{◌≡◌, ℕ, ◌+◌, ◌/◌, ◌%◌, ◌<◌, ◌≤◌, List, [], ◌∷◌, ◌++◌, length, get_or, take, sym, refl, ap, ◌∙◌, append_assoc}
-use Rattle.std.proofs.lemmas.List.{append-nil, take_more, take_all}
+use Rattle.std.proofs.Common.{◌≡◌, ℕ, ◌+◌, ◌/◌, ◌%◌, ◌<◌, List, [], ◌∷◌, ◌++◌, length, get_or, take, sym, refl, ap, ◌∙◌, append_assoc}
+use Rattle.std.proofs.lemmas.List.{append-nil, take_more}
 use Rattle.replay.specs.Messages.{digit, digits}
 
 digits_push : (bs : List ℕ) (b : ℕ) → digits (bs ++ (b ∷ [])) ≡ (digits bs ++ (digit (b / 16) ∷ [])) ++ (digit (b % 16) ∷ [])
@@ -20,6 +20,3 @@ pub more_put : (acc bs : List ℕ) (i : ℕ) → i < length bs
 more_put acc bs i l =
     together acc (digits (take i bs)) (digit (get_or bs i 0 / 16) ∷ []) (digit (get_or bs i 0 % 16) ∷ [])
     ∙ ap (λ ds. acc ++ ds) (sym (ap digits (take_more bs i 0 l) ∙ digits_push (take i bs) (get_or bs i 0)))
-
-pub all_put : (acc bs : List ℕ) (i : ℕ) → length bs ≤ i → acc ++ digits (take i bs) ≡ acc ++ digits bs
-all_put acc bs i l = ap (λ z. acc ++ digits z) (take_all i bs l)

@@ -1,4 +1,3 @@
 -- Lemmas that several answers rest on.
-pub mod Decimals
 pub mod Digits
 pub mod Lines

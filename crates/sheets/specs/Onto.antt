@@ -16,6 +16,13 @@ word_of Rejected = codes "rejected"
 word_of Waiting = codes "waiting"
 word_of Foreign = codes "foreign"
 
+-- the word of a verdict
+abbrev pub word_for : Verdict → Word
+word_for (ConfirmedAt time) = Confirmed
+word_for IsRejected = Rejected
+word_for IsWaiting = Waiting
+word_for IsForeign = Foreign
+
 -- how long a word, a space and a count are
 abbrev pub count_length : Word → ℕ → ℕ
 count_length word n = length (word_of word) + (1 + length (decimal n))

@@ -1,34 +1,20 @@
 // Bytes in hexadecimal digits, two for each byte.
-ghost use Rattle.std.specs.Prelude.{◌≡◌, ◌+◌, ◌*◌, ◌/◌, ◌%◌, ◌<◌, ◌≤◌, [], ◌∷◌, ◌++◌, length, take};
-ghost use Rattle.replay.specs.Messages.{digit as digit_of, digits};
+ghost use Rattle.std.specs.Prelude.{◌≡◌, ◌*◌, ◌++◌, length};
+ghost use Rattle.replay.specs.Messages.{digits};
+ghost use Rattle.written.specs.Writers.{written, HasRoom, Moved};
 
-use crate::puts::put_byte;
+use replay::hex::hex_digit;
+use written::writer::Writer;
 
-fn digit(n: u8) -> u8
-    requires { n < 16 }
-    ensures { result ≡ digit_of n }
+// The high digit of each byte first.
+#[tactic(auto, using(crate::proofs::Digits::none_put, crate::proofs::Digits::more_put))]
+pub(crate) fn put_hex(w: &mut Writer<'_>, bytes: &[u8])
+    requires { HasRoom w.old (2 * length bytes.now) }
+    ensures moved { Moved w.old w.new (2 * length bytes.now) }
+    ensures front { written w.new ≡ written w.old ++ digits bytes.now }
 {
-    if n < 10 { b'0' + n } else { b'a' - 10 + n }
-}
-
-// The high digit first.
-fn put_pair(out: &mut [u8], at: usize, b: u8) -> usize
-    requires { at + 2 ≤ length out.old }
-    ensures next { result ≡ at + 2 }
-    ensures front { take result out.new ≡ (take at out.old ++ (digit_of (b / 16) ∷ [])) ++ (digit_of (b % 16) ∷ []) }
-{
-    let low = put_byte(out, at, digit(b / 16));
-    put_byte(out, low, digit(b % 16))
-}
-
-pub(crate) fn put_hex(out: &mut [u8], at: usize, bytes: &[u8]) -> usize
-    requires { at + 2 * length bytes.now ≤ length out.old }
-    ensures next { result ≡ at + 2 * length bytes.now }
-    ensures front { take result out.new ≡ take at out.old ++ digits bytes.now }
-{
-    let mut next = at;
     for b in bytes {
-        next = put_pair(out, next, *b);
+        w.byte(hex_digit(b / 16));
+        w.byte(hex_digit(b % 16));
     }
-    next
 }

@@ -5,5 +5,8 @@ mod hex;
 pub mod last;
 pub mod line;
 mod numbers;
-mod puts;
 mod words;
+
+const SPACE: u8 = 0x20;
+
+const LINE_END: u8 = 0x0a;

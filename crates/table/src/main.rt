@@ -1,35 +1,41 @@
 // A table of files, each read whole: what is granted, and what is refused and where.
 #![tactic(auto)]
 
+ghost use Rattle.std.specs.Prelude.{length};
+ghost use Rattle.std.specs.Iterator.{at_most};
+
 use account::refusals::refused_line;
 use account::words::text;
 use proof::counts::count;
 use std::fs;
 
-// One file of the table, and what follows it.
+// One file of the table.
 #[derive(Clone, Copy)]
 struct Entry<'a> {
     name: &'a [u8],
     file: &'a [u8],
-    rest: &'a [u8],
 }
 
-// The length of the name in one byte, that of the file in four, low byte first; then name and file.
-fn first<'a>(table: &'a [u8]) -> Option<Entry<'a>> {
-    if table.len() < 5 {
-        return None;
+// The entries of a table that are still to come; a cut one ends them.
+#[derive(Clone, Copy)]
+struct Entries<'a> {
+    table: &'a [u8],
+}
+
+impl<'a> Iterator for Entries<'a> {
+    type Item = Entry<'a>;
+
+    ghost remaining = { λ e. at_most (length e.table.now) };
+
+    // The length of the name in one byte, that of the file in four, low byte first; then name and file.
+    fn next(&mut self) -> Option<Entry<'a>> {
+        let (name, rest) = self.table.split_first()?;
+        let (size, rest) = rest.split_first_chunk()?;
+        let (name, rest) = rest.split_at_checked(*name as usize)?;
+        let (file, rest) = rest.split_at_checked(u32::from_le_bytes(*size) as usize)?;
+        self.table = rest;
+        Some(Entry { name, file })
     }
-    let name = table[0] as usize;
-    let size = u32::from_le_bytes([table[1], table[2], table[3], table[4]]) as usize;
-    if table.len() - 5 < name || table.len() - 5 - name < size {
-        return None;
-    }
-    let end = 5 + name;
-    Some(Entry {
-        name: &table[5..end],
-        file: &table[end..end + size],
-        rest: &table[end + size..],
-    })
 }
 
 fn say(rt: &HostRuntime, entry: &Entry) -> anyhow::Result<()> {
@@ -51,13 +57,11 @@ fn say(rt: &HostRuntime, entry: &Entry) -> anyhow::Result<()> {
 
 fn main(rt: HostRuntime) -> anyhow::Result<()> {
     let table = fs::read(&rt, "cases.bin")?;
-    let mut rest = table.as_slice();
-    for _ in 0..table.len() {
-        let Some(entry) = first(rest) else {
-            break;
-        };
+    let entries = Entries {
+        table: table.as_slice(),
+    };
+    for entry in entries {
         say(&rt, &entry)?;
-        rest = entry.rest;
     }
     Ok(())
 }

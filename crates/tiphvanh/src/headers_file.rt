@@ -1,46 +1,19 @@
 // What a file of headers covers.
-use crate::files::{fail, read};
-use crate::words::word;
-use anyhow::anyhow;
+use crate::files::{HEADERS, failed, read};
 use coverage::lines::{ending_line, headers_line, heights_line, times_line};
-use coverage::options::{Options, Pair, Wrong, parse};
+use coverage::options::{Wrong, parse};
 use coverage::spans::cover;
+use headers::chain::Chain;
 
-// One header more than a run may have, so that a longer file shows.
-const ENOUGH: usize = 65536 * 80 + 80;
-
-// The words from the third on are options.
-pub fn headers(rt: &HostRuntime, path: &str, words: &Vec<String>) -> anyhow::Result<()> {
-    match parse(
-        words.len().saturating_sub(2),
-        pair(words, 2),
-        pair(words, 4),
-        pair(words, 6),
-    ) {
-        Ok(options) => covered(rt, path, &options),
-        Err(wrong) => refuse(rt, words, wrong),
-    }
+// The words are its options.
+pub fn headers(rt: &HostRuntime, path: &str, words: &[&str]) -> anyhow::Result<()> {
+    let chain = parse(words).map_err(|wrong| refused(rt, wrong))?;
+    let file = read(rt, path, HEADERS).map_err(|error| failed(rt, error))?;
+    account(rt, &chain, file.as_slice())
 }
 
-fn pair(words: &Vec<String>, at: usize) -> Pair<'_> {
-    Pair {
-        option: word(words, at),
-        value: word(words, at.saturating_add(1)),
-    }
-}
-
-fn covered(rt: &HostRuntime, path: &str, options: &Options) -> anyhow::Result<()> {
-    match read(rt, path, ENOUGH) {
-        Ok(file) => account(rt, options, file.as_slice()),
-        Err(error) => {
-            eprintln!(rt; "tiphvanh: cannot read {path}: {error}")?;
-            Err(anyhow!("unreadable"))
-        }
-    }
-}
-
-fn account(rt: &HostRuntime, options: &Options, bytes: &[u8]) -> anyhow::Result<()> {
-    let coverage = cover(options, bytes);
+fn account(rt: &HostRuntime, chain: &Chain, bytes: &[u8]) -> anyhow::Result<()> {
+    let coverage = cover(chain, bytes);
     rt.println(headers_line(rt.alloc(), &coverage)?)?;
     if let Some(span) = coverage.span {
         rt.println(heights_line(rt.alloc(), &span)?)?;
@@ -50,20 +23,13 @@ fn account(rt: &HostRuntime, options: &Options, bytes: &[u8]) -> anyhow::Result<
     Ok(())
 }
 
-fn refuse(rt: &HostRuntime, words: &Vec<String>, wrong: Wrong) -> anyhow::Result<()> {
+fn refused(rt: &HostRuntime, wrong: Wrong) -> anyhow::Error {
     match wrong {
-        Wrong::Odd => fail(rt, "an option has no value: see tiphvanh help"),
-        Wrong::Many => fail(rt, "too many options: see tiphvanh help"),
-        Wrong::Unknown(place) => {
-            let option = word(words, place.saturating_mul(2));
-            eprintln!(rt; "tiphvanh: not an option: {option}")?;
-            Err(anyhow!("failed"))
-        }
-        Wrong::Unreadable(place) => {
-            let option = word(words, place.saturating_mul(2));
-            let value = word(words, place.saturating_mul(2).saturating_add(1));
-            eprintln!(rt; "tiphvanh: {option} cannot be {value}")?;
-            Err(anyhow!("failed"))
+        Wrong::Odd => failed(rt, "an option has no value: see tiphvanh help"),
+        Wrong::Many => failed(rt, "too many options: see tiphvanh help"),
+        Wrong::Unknown(option) => failed(rt, format_args!("not an option: {option}")),
+        Wrong::Unreadable { option, value } => {
+            failed(rt, format_args!("{option} cannot be {value}"))
         }
     }
 }

@@ -1,55 +1,65 @@
 // The judge that a program was asked for, and the texts that it stands on.
-use crate::files::read;
-use coverage::options::Options;
+use crate::files::{FileError, HEADERS, read};
+use headers::chain::Chain;
 use judge::calendar_judge::CalendarJudge;
 use judge::choice::AnyJudge;
 use judge::header_judge::HeaderJudge;
-use std::{fs, io};
 
-// One header more than a run may have, so that a longer file shows.
-const HEADERS: usize = 65536 * 80 + 80;
+// A text of headers, and what the first of them is held to be.
+#[derive(Drop)]
+struct Headers {
+    bytes: Vec<u8>,
+    chain: Chain,
+}
 
-// The texts, where they were asked for, and what the first header is held to be.
+impl Headers {
+    fn judge(&self) -> HeaderJudge<'_> {
+        HeaderJudge::new(&self.chain, self.bytes.as_slice())
+    }
+}
+
+// The texts, where they were asked for.
 #[derive(Drop)]
 pub struct Texts {
-    pub headers: Option<Vec<u8>>,
-    pub calendars: Option<Vec<u8>>,
-    pub chain: Options,
+    headers: Option<Headers>,
+    calendars: Option<Vec<u8>>,
 }
 
-// Headers, if a path of them is given; no more than a run can have.
-pub fn headers_at(rt: &HostRuntime, path: Option<&str>) -> io::Result<Option<Vec<u8>>> {
-    match path {
-        Some(path) => Ok(Some(read(rt, path, HEADERS)?)),
-        None => Ok(None),
+impl Texts {
+    // No text, and so no judge.
+    pub fn none() -> Texts {
+        Texts {
+            headers: None,
+            calendars: None,
+        }
     }
-}
 
-// The addresses of calendars, if a path of them is given.
-pub fn calendars_at(rt: &HostRuntime, path: Option<&str>) -> io::Result<Option<Vec<u8>>> {
-    match path {
-        Some(path) => Ok(Some(fs::read(rt, path)?)),
-        None => Ok(None),
+    // The texts at the paths that are given. Of headers no more are read than a run can have.
+    pub fn read<'a>(
+        rt: &HostRuntime,
+        headers: Option<&'a str>,
+        chain: Chain,
+        calendars: Option<&'a str>,
+    ) -> Result<Texts, FileError<'a>> {
+        let headers = headers.map(|path| read(rt, path, HEADERS)).transpose()?;
+        let calendars = calendars.map(|path| read(rt, path, u64::MAX)).transpose()?;
+        Ok(Texts {
+            headers: headers.map(|bytes| Headers { bytes, chain }),
+            calendars,
+        })
     }
-}
 
-fn header_judge<'a>(chain: &Options, bytes: &'a [u8]) -> HeaderJudge<'a> {
-    HeaderJudge::new(chain.base, chain.previous, chain.ceiling, bytes)
-}
-
-// Headers decide before calendars; who was not asked for judges nothing.
-pub fn judge_of<'a>(texts: &'a Texts) -> AnyJudge<'a> {
-    match &texts.headers {
-        Some(headers) => match &texts.calendars {
-            Some(calendars) => AnyJudge::Both(
-                header_judge(&texts.chain, headers.as_slice()),
-                CalendarJudge::new(calendars.as_slice()),
-            ),
-            None => AnyJudge::Headers(header_judge(&texts.chain, headers.as_slice())),
-        },
-        None => match &texts.calendars {
-            Some(calendars) => AnyJudge::Calendars(CalendarJudge::new(calendars.as_slice())),
-            None => AnyJudge::Nobody,
-        },
+    // Headers decide before calendars; who was not asked for judges nothing.
+    pub fn judge(&self) -> AnyJudge<'_> {
+        match (&self.headers, &self.calendars) {
+            (Some(headers), Some(calendars)) => {
+                AnyJudge::Both(headers.judge(), CalendarJudge::new(calendars.as_slice()))
+            }
+            (Some(headers), None) => AnyJudge::Headers(headers.judge()),
+            (None, Some(calendars)) => {
+                AnyJudge::Calendars(CalendarJudge::new(calendars.as_slice()))
+            }
+            (None, None) => AnyJudge::Nobody,
+        }
     }
 }

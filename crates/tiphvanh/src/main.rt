@@ -12,7 +12,8 @@ mod sheet;
 mod show;
 mod words;
 
-use files::fail;
+use account::commands::Command as Plain;
+use files::failed;
 use headers_file::headers;
 use merge::merge_command;
 use report::commands::{Command, parse};
@@ -20,7 +21,7 @@ use run::run_command;
 use sheet::sheet_command;
 use show::show;
 use std::process::ExitCode;
-use words::{word, words};
+use words::words;
 
 const VERSION: &str = "tiphvanh 0.1.0";
 
@@ -43,25 +44,28 @@ fn usage(rt: &HostRuntime) -> anyhow::Result<()> {
 
 fn asked(rt: &HostRuntime) -> anyhow::Result<()> {
     let words = words(rt)?;
-    match parse(
-        words.len(),
-        word(&words, 0),
-        word(&words, 1),
-        word(&words, 2),
-    ) {
-        Command::Usage => usage(rt),
-        Command::Version => {
+    let list: Vec<&str> = words.iter().map(|word| word.as_str()).collect(rt.alloc())?;
+    match parse(&list) {
+        Command::Merge(words) => merge_command(rt, words),
+        Command::Sheet(words) => sheet_command(rt, words),
+        Command::Run(path) => run_command(rt, path, false),
+        Command::Overwrite(path) => run_command(rt, path, true),
+        Command::Plain(command) => plain(rt, command),
+    }
+}
+
+// The commands that make no call on a dossier.
+fn plain(rt: &HostRuntime, command: Plain) -> anyhow::Result<()> {
+    match command {
+        Plain::Usage => usage(rt),
+        Plain::Version => {
             println!(rt; "{VERSION}")?;
             Ok(())
         }
-        Command::Show(path) => show(rt, path, false),
-        Command::Messages(path) => show(rt, path, true),
-        Command::Headers(path) => headers(rt, path, &words),
-        Command::Merge => merge_command(rt, &words),
-        Command::Sheet => sheet_command(rt, &words),
-        Command::Run(path) => run_command(rt, path, false),
-        Command::Overwrite(path) => run_command(rt, path, true),
-        Command::Unknown => fail(rt, "not a command: see tiphvanh help"),
+        Plain::Show(path) => show(rt, path, false),
+        Plain::Messages(path) => show(rt, path, true),
+        Plain::Headers { path, options } => headers(rt, path, options),
+        Plain::Unknown => Err(failed(rt, "not a command: see tiphvanh help")),
     }
 }
 

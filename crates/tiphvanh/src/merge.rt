@@ -1,12 +1,12 @@
 // The merge of the proofs of one record.
-use crate::files::{fail, read};
-use crate::judges::{Texts, judge_of};
-use crate::outputs::{draft, place, taken};
-use crate::requests::{request, texts_of};
+use crate::files::{AREA, failed, proof};
+use crate::judges::Texts;
+use crate::outputs::{Draft, taken};
+use crate::requests::{request, texts};
+use crate::sheet::{listed, refused};
 use account::lines::{counts_line, size_line};
 use anyhow::anyhow;
 use claims::size::size_of;
-use dossier::refusal::Refusal;
 use gather::file::gather;
 use history::merged::{Merged, Piece, Stopped};
 use history::merging::merge;
@@ -14,213 +14,155 @@ use judge::choice::AnyJudge;
 use proof::counts::count;
 use replay::ROOM;
 use report::lines::{date_line, piece_line, refused_piece_line, verdicts_line, wrote_line};
-use report::options::Request;
-use report::requests::{pieces, word};
+use report::requests::pieces;
 
-// One byte more than the longest proof, so that a longer file shows.
-const ENOUGH: usize = 65537;
+// A proof that is merged, and where it was read.
+#[derive(Drop)]
+struct Proof<'a> {
+    path: &'a str,
+    file: Vec<u8>,
+}
 
-// More than any merged proof or sheet has.
-const AREA: usize = 65536;
+// A merge that is asked for: where its file and its sheet go, and what they are made of.
+#[derive(Drop)]
+struct Order<'a> {
+    out: &'a str,
+    sheet: Option<&'a str>,
+    proofs: Vec<Proof<'a>>,
+    texts: Texts,
+}
 
-// The words from the second on are options and pieces.
-pub fn merge_command(rt: &HostRuntime, words: &Vec<String>) -> anyhow::Result<()> {
+// The words are options and the proofs to merge.
+pub fn merge_command(rt: &HostRuntime, words: &[&str]) -> anyhow::Result<()> {
     let asked = request(rt, words)?;
-    let places = pieces(rt.alloc(), words, 1)?;
+    let paths = pieces(rt.alloc(), words)?;
     let Some(out) = asked.out else {
-        return fail(rt, "merge wants --out FILE: see tiphvanh help");
+        return Err(failed(rt, "merge wants --out FILE: see tiphvanh help"));
     };
-    if places.len() == 0 {
-        return fail(rt, "merge wants proofs to merge: see tiphvanh help");
+    if paths.is_empty() {
+        return Err(failed(rt, "merge wants proofs to merge: see tiphvanh help"));
     }
-    free(rt, word(words, out), asked.force)?;
+    free(rt, out, asked.force)?;
     if let Some(sheet) = asked.sheet {
-        free(rt, word(words, sheet), asked.force)?;
+        free(rt, sheet, asked.force)?;
     }
-    let texts = texts_of(rt, words, &asked)?;
-    let files = piece_files(rt, words, &places)?;
-    merged(rt, words, &asked, &places, &files, &texts)
+    let texts = texts(rt, &asked)?;
+    let order = Order {
+        out,
+        sheet: asked.sheet,
+        proofs: proofs(rt, paths.as_slice())?,
+        texts,
+    };
+    merged(rt, &order)
 }
 
 // Nothing is overwritten unless that was asked for.
 fn free(rt: &HostRuntime, path: &str, force: bool) -> anyhow::Result<()> {
     if !force && taken(rt, path) {
-        eprintln!(rt; "tiphvanh: {path} exists; --force overwrites it")?;
-        return Err(anyhow!("exists"));
+        return Err(failed(rt, format_args!("{path} exists; --force overwrites it")));
     }
     Ok(())
 }
 
-fn piece_files(
-    rt: &HostRuntime,
-    words: &Vec<String>,
-    places: &Vec<usize>,
-) -> anyhow::Result<Vec<Vec<u8>>> {
-    let mut files = Vec::new(rt.alloc());
-    for place in places.iter() {
-        let path = word(words, *place);
-        match read(rt, path, ENOUGH) {
-            Ok(file) => files.push(file)?,
-            Err(error) => {
-                eprintln!(rt; "tiphvanh: cannot read {path}: {error}")?;
-                return Err(anyhow!("unreadable"));
-            }
-        }
+fn proofs<'a>(rt: &HostRuntime, paths: &[&'a str]) -> anyhow::Result<Vec<Proof<'a>>> {
+    let mut proofs = Vec::new(rt.alloc());
+    for path in paths {
+        let file = proof(rt, path)?;
+        proofs.push(Proof { path, file })?;
     }
-    Ok(files)
+    Ok(proofs)
 }
 
-fn merged(
-    rt: &HostRuntime,
-    words: &Vec<String>,
-    asked: &Request,
-    places: &Vec<usize>,
-    files: &Vec<Vec<u8>>,
-    texts: &Texts,
-) -> anyhow::Result<()> {
+fn merged(rt: &HostRuntime, order: &Order) -> anyhow::Result<()> {
     let heap = rt.alloc();
-    let judge = judge_of(texts);
-    let mut list = Vec::new(heap);
-    for file in files.iter() {
-        list.push(Piece {
-            file: file.as_slice(),
-        })?;
-    }
+    let judge = order.texts.judge();
+    let pieces: Vec<Piece> = order
+        .proofs
+        .iter()
+        .map(|proof| Piece {
+            file: proof.file.as_slice(),
+        })
+        .collect(heap)?;
     let mut out = vec![in heap; 0u8; AREA]?;
     let mut work = vec![in heap; 0u8; ROOM]?;
     match merge(
         heap,
-        list.as_slice(),
+        pieces.as_slice(),
         &judge,
         out.as_mut_slice(),
         work.as_mut_slice(),
     ) {
         Ok(merged) => {
-            granted(rt, words, places, files, files.len())?;
+            granted(rt, order.proofs.as_slice())?;
             out.truncate(merged.length);
-            written(rt, words, asked, &judge, &merged, out.as_slice())
+            written(rt, order, &judge, &merged, out.as_slice())
         }
-        Err(stopped) => refused(rt, words, places, files, stopped),
+        Err(stopped) => unmerged(rt, order.proofs.as_slice(), stopped),
     }
 }
 
-// A line for each of the first pieces, with how many claims it has.
-fn granted(
-    rt: &HostRuntime,
-    words: &Vec<String>,
-    places: &Vec<usize>,
-    files: &Vec<Vec<u8>>,
-    first: usize,
-) -> anyhow::Result<()> {
-    for (place, file) in places.iter().zip(files.iter()).take(first) {
-        let path = word(words, *place);
-        if let Ok(node) = gather(rt.alloc(), file.as_slice()) {
-            rt.println(piece_line(rt.alloc(), path, size_of(&node).attestations)?)?;
+// A line for each proof, with how many claims it has.
+fn granted(rt: &HostRuntime, proofs: &[Proof]) -> anyhow::Result<()> {
+    for proof in proofs {
+        if let Ok(node) = gather(rt.alloc(), proof.file.as_slice()) {
+            rt.println(piece_line(rt.alloc(), proof.path, size_of(&node).attestations)?)?;
         }
     }
     Ok(())
 }
 
-fn refused(
-    rt: &HostRuntime,
-    words: &Vec<String>,
-    places: &Vec<usize>,
-    files: &Vec<Vec<u8>>,
-    stopped: Stopped,
-) -> anyhow::Result<()> {
+fn unmerged(rt: &HostRuntime, proofs: &[Proof], stopped: Stopped) -> anyhow::Result<()> {
     match stopped {
+        // the place is that of a proof
         Stopped::Piece { place, refusal } => {
-            granted(rt, words, places, files, place)?;
-            let path = match places.get(place) {
-                Some(at) => word(words, *at),
-                None => "",
-            };
-            rt.println(refused_piece_line(rt.alloc(), path, &refusal)?)?;
+            if let Some((before, [proof, ..])) = proofs.split_at_checked(place) {
+                granted(rt, before)?;
+                rt.println(refused_piece_line(rt.alloc(), proof.path, &refusal)?)?;
+            }
             println!(rt; "nothing was written")?;
             Err(anyhow!("refused"))
         }
-        Stopped::Tally(refusal) => unwritten(rt, "tally", &refusal),
-        Stopped::Write(refusal) => unwritten(rt, "write", &refusal),
+        Stopped::Tally(refusal) => Err(refused(rt, "tally", &refusal)),
+        Stopped::Write(refusal) => Err(refused(rt, "write", &refusal)),
     }
-}
-
-fn unwritten(rt: &HostRuntime, call: &str, refusal: &Refusal) -> anyhow::Result<()> {
-    rt.println(refused_piece_line(rt.alloc(), call, refusal)?)?;
-    Err(anyhow!("refused"))
 }
 
 // Proof and sheet are both made before either takes its place.
 fn written(
     rt: &HostRuntime,
-    words: &Vec<String>,
-    asked: &Request,
+    order: &Order,
     judge: &AnyJudge,
     merged: &Merged,
     proof: &[u8],
 ) -> anyhow::Result<()> {
-    let Some(at) = asked.out else {
-        return fail(rt, "merge wants --out FILE: see tiphvanh help");
+    // Kept: two matches with a question mark in an arm; `map` and `transpose` over them are no plainer.
+    let sheet = match order.sheet {
+        Some(path) => Some((path, listed(rt, "sheet", &merged.dossier, judge)?)),
+        None => None,
     };
-    let out = word(words, at);
-    match asked.sheet {
-        Some(at) => {
-            let sheet = sheet_of(rt, judge, merged)?;
-            let path = word(words, at);
-            let first = drafted(rt, out, proof)?;
-            let second = drafted(rt, path, sheet.as_slice())?;
-            placed(rt, first.as_str(), out)?;
-            placed(rt, second.as_str(), path)?;
-            holds(rt, merged, proof)?;
-            rt.println(wrote_line(rt.alloc(), out, proof.len())?)?;
-            rt.println(wrote_line(rt.alloc(), path, sheet.len())?)?;
-            Ok(())
-        }
-        None => {
-            let first = drafted(rt, out, proof)?;
-            placed(rt, first.as_str(), out)?;
-            holds(rt, merged, proof)?;
-            rt.println(wrote_line(rt.alloc(), out, proof.len())?)?;
-            Ok(())
-        }
+    let first = drafted(rt, order.out, proof)?;
+    let second = match &sheet {
+        Some((path, bytes)) => Some(drafted(rt, path, bytes.as_slice())?),
+        None => None,
+    };
+    placed(rt, first)?;
+    if let Some(second) = second {
+        placed(rt, second)?;
     }
+    holds(rt, merged, proof)?;
+    rt.println(wrote_line(rt.alloc(), order.out, proof.len())?)?;
+    if let Some((path, bytes)) = &sheet {
+        rt.println(wrote_line(rt.alloc(), path, bytes.len())?)?;
+    }
+    Ok(())
 }
 
-fn drafted(rt: &HostRuntime, path: &str, bytes: &[u8]) -> anyhow::Result<String> {
-    match draft(rt, path, bytes) {
-        Ok(name) => Ok(name),
-        Err(error) => {
-            eprintln!(rt; "tiphvanh: cannot write {path}: {error}")?;
-            Err(anyhow!("unwritable"))
-        }
-    }
+fn drafted<'a>(rt: &HostRuntime, path: &'a str, bytes: &[u8]) -> anyhow::Result<Draft<'a>> {
+    Draft::new(rt, path, bytes).map_err(|error| failed(rt, error))
 }
 
-fn placed(rt: &HostRuntime, name: &str, path: &str) -> anyhow::Result<()> {
-    match place(rt, name, path) {
-        Ok(()) => Ok(()),
-        Err(error) => {
-            eprintln!(rt; "tiphvanh: cannot write {path}: {error}")?;
-            Err(anyhow!("unwritable"))
-        }
-    }
-}
-
-fn sheet_of(rt: &HostRuntime, judge: &AnyJudge, merged: &Merged) -> anyhow::Result<Vec<u8>> {
-    let mut sheet = vec![in rt.alloc(); 0u8; AREA]?;
-    let mut work = vec![in rt.alloc(); 0u8; ROOM]?;
-    match merged
-        .dossier
-        .sheet(judge, sheet.as_mut_slice(), work.as_mut_slice())
-    {
-        Ok(n) => {
-            sheet.truncate(n);
-            Ok(sheet)
-        }
-        Err(refusal) => {
-            rt.println(refused_piece_line(rt.alloc(), "sheet", &refusal)?)?;
-            Err(anyhow!("refused"))
-        }
-    }
+fn placed(rt: &HostRuntime, draft: Draft) -> anyhow::Result<()> {
+    draft.place(rt).map_err(|error| failed(rt, error))
 }
 
 // What is read back of the written bytes, and what the judge says of it.
@@ -231,7 +173,7 @@ fn holds(rt: &HostRuntime, merged: &Merged, proof: &[u8]) -> anyhow::Result<()> 
     }
     if let Ok(node) = gather(heap, proof) {
         let size = size_of(&node);
-        rt.println(size_line(heap, size.operations, size.attestations, size.bytes)?)?;
+        rt.println(size_line(heap, &size)?)?;
     }
     rt.println(verdicts_line(heap, &merged.tally)?)?;
     rt.println(date_line(heap, &merged.tally.date)?)?;

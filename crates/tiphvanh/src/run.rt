@@ -1,263 +1,219 @@
 // The calls of a script, made line by line.
-use crate::files::read;
-use crate::judges::{Texts, calendars_at, headers_at, judge_of};
+use crate::files::{AREA, FileError, PROOF, failed, read};
+use crate::judges::Texts;
 use crate::outputs::{put, taken};
 use anyhow::anyhow;
-use coverage::options::{Options, main_chain};
+use coverage::options::main_chain;
 use dossier::phases::Open;
-use dossier::refusal::Refusal;
 use history::call::Call;
 use history::entry::Entry;
 use history::making::make;
 use history::phase::Phase;
 use judge::choice::AnyJudge;
-use script::answers::{
-    Remark, added_text, bytes_text, refusal_text, remark_text, row_text, tally_text,
-};
-use script::line::{HeaderLine, Judges, Line, parse};
+use script::answers::{Remark, added_text, bytes_text, refusal_text, row_text, tally_text};
+use script::line::{Judges, Line, parse};
 use script::words::split;
-use std::{fs, io, mem};
+use std::alloc::{AllocError, Global};
+use std::fmt::Display;
+use std::{fs, mem};
 
-// One byte more than the longest proof, so that a longer file shows.
-const ENOUGH: usize = 65537;
+// A line of a script, and what it asks for.
+#[derive(Clone, Copy)]
+struct ScriptLine<'a> {
+    text: &'a str,
+    asks: Line<'a>,
+}
 
-// An area that is large enough for every file and sheet; a larger one changes no answer.
-const AREA: usize = 65536;
-
-// The dossier that the lines speak of, and whether all went well.
+// The dossier that the lines speak of, whether all went well, and whether files may be overwritten.
 #[derive(Drop)]
-struct State {
+struct Run<'a> {
+    rt: &'a HostRuntime,
     phase: Phase,
+    // Kept: these two are plain yes or no; no value stands beside either that an Option could hold.
     well: bool,
     force: bool,
 }
 
 // The script at a path. A file that is there already is overwritten only by force.
 pub fn run_command(rt: &HostRuntime, path: &str, force: bool) -> anyhow::Result<()> {
-    match fs::read_to_string(rt, path) {
-        Ok(script) => lines(rt, script.as_str(), force),
-        Err(error) => {
-            eprintln!(rt; "tiphvanh: cannot read {path}: {error}")?;
-            Err(anyhow!("unreadable"))
-        }
-    }
-}
-
-// From one judge to the next, until no line is left.
-fn lines(rt: &HostRuntime, script: &str, force: bool) -> anyhow::Result<()> {
-    let mut lines = Vec::new(rt.alloc());
-    for line in script.lines() {
-        lines.push(line)?;
-    }
-    let mut state = State {
+    let script = fs::read_to_string(rt, path).map_err(|error| failed(
+        rt,
+        FileError::Unread(path, error),
+    ))?;
+    let mut run = Run {
+        rt,
         phase: Phase::Open(Open::new()),
         well: true,
         force,
     };
-    let mut texts = nobody();
-    let mut at = 0;
-    for _ in 0..lines.len() {
-        if at >= lines.len() {
-            break;
-        }
-        let (next, judges) = judged(rt, &lines, at, &mut state, &texts)?;
-        if let Some(judges) = judges {
-            texts = judges;
-        }
-        at = next;
-    }
-    if state.well {
+    run.script(script.as_str())?;
+    if run.well {
         Ok(())
     } else {
         Err(anyhow!("not all went well"))
     }
 }
 
-// No judge.
-fn nobody() -> Texts {
-    Texts {
-        headers: None,
-        calendars: None,
-        chain: main_chain(),
-    }
+// The texts of the judge that a line names.
+fn texts<'a>(rt: &HostRuntime, judges: &Judges<'a>) -> Result<Texts, FileError<'a>> {
+    let (headers, calendars) = match *judges {
+        Judges::None => (None, None),
+        Judges::Headers(headers) => (Some(headers), None),
+        Judges::Calendars(path) => (None, Some(path)),
+        Judges::Both(headers, path) => (Some(headers), Some(path)),
+    };
+    let chain = headers.map_or(main_chain(), |line| line.chain);
+    Texts::read(rt, headers.map(|line| line.file), chain, calendars)
 }
 
-// The lines from a place on, up to the next that names a judge: the place behind it, and the texts of that judge.
-fn judged(
-    rt: &HostRuntime,
-    lines: &Vec<&str>,
-    from: usize,
-    state: &mut State,
-    texts: &Texts,
-) -> anyhow::Result<(usize, Option<Texts>)> {
-    let judge = judge_of(texts);
-    for at in from..lines.len() {
-        let line = lines[at];
-        match parse(&split(line)) {
-            Line::Judge(judges) => match texts_of(rt, &judges) {
-                Ok(texts) => return Ok((at + 1, Some(texts))),
-                Err(_) => remark(rt, state, line, Remark::Unread)?,
+impl Run<'_> {
+    // From one judge to the next, until no line is left.
+    fn script(&mut self, script: &str) -> anyhow::Result<()> {
+        let lines: Vec<ScriptLine> = script
+            .lines()
+            .map(|text| ScriptLine {
+                text,
+                asks: parse(split(text).as_slice()),
+            })
+            .collect(self.rt.alloc())?;
+        let mut texts = Texts::none();
+        for part in lines.chunk_by(|_, next| !matches!(next.asks, Line::Judge(_))) {
+            if let Some(named) = self.named(part)? {
+                texts = named;
+            }
+            let judge = texts.judge();
+            for line in part {
+                self.line(line.text, &line.asks, &judge)?;
+            }
+        }
+        Ok(())
+    }
+
+    // The texts of the judge that the first line names.
+    fn named(&mut self, part: &[ScriptLine]) -> anyhow::Result<Option<Texts>> {
+        let [first, ..] = part else {
+            return Ok(None);
+        };
+        let Line::Judge(judges) = &first.asks else {
+            return Ok(None);
+        };
+        match texts(self.rt, judges) {
+            Ok(texts) => Ok(Some(texts)),
+            Err(_) => {
+                self.remark(first.text, Remark::Unread)?;
+                Ok(None)
+            }
+        }
+    }
+
+    // What is said of a line that is no call, or whose file cannot be had.
+    fn remark(&mut self, text: &str, said: Remark) -> anyhow::Result<()> {
+        self.well = false;
+        self.answer(text, said)
+    }
+
+    // A line is printed back with its answer.
+    fn answer(&self, text: &str, answer: impl Display + Drop) -> anyhow::Result<()> {
+        println!(self.rt; "{text}: {answer}")?;
+        Ok(())
+    }
+
+    // One line, with the file that it names. One that names a judge has been heeded where its part begins.
+    fn line(&mut self, text: &str, asks: &Line, judge: &AnyJudge) -> anyhow::Result<()> {
+        match *asks {
+            Line::Blank | Line::Judge(_) => Ok(()),
+            Line::New => {
+                self.phase = Phase::Open(Open::new());
+                Ok(())
+            }
+            Line::Add(path) => match read(self.rt, path, PROOF) {
+                Ok(file) => self.call(text, None, &Call::Add(file.as_slice())),
+                Err(_) => self.remark(text, Remark::Unread),
             },
-            call => made(rt, state, line, &call, &judge)?,
+            Line::Settle => self.call(text, None, &Call::Settle),
+            Line::Reopen => self.call(text, None, &Call::Reopen),
+            Line::Write { file, room } => {
+                let room = area(room);
+                self.call(text, place(file), &Call::Write { room })
+            }
+            Line::Row { k, work } => {
+                let work = area(work);
+                self.call(text, None, &Call::Row { judge, k, work })
+            }
+            Line::Tally { work } => {
+                let work = area(work);
+                self.call(text, None, &Call::Tally { judge, work })
+            }
+            Line::Sheet { file, room, work } => {
+                let (room, work) = (area(room), area(work));
+                self.call(text, place(file), &Call::Sheet { judge, room, work })
+            }
+            Line::NoCall => self.remark(text, Remark::NoCall),
         }
     }
-    Ok((lines.len(), None))
-}
 
-fn texts_of(rt: &HostRuntime, judges: &Judges) -> io::Result<Texts> {
-    match *judges {
-        Judges::None => Ok(nobody()),
-        Judges::Headers(line) => header_texts(rt, &line, None),
-        Judges::Calendars(path) => Ok(Texts {
-            headers: None,
-            calendars: calendars_at(rt, Some(path))?,
-            chain: main_chain(),
-        }),
-        Judges::Both(line, path) => header_texts(rt, &line, Some(path)),
+    // The call is made and answered. What it wrote goes to the file.
+    fn call(
+        &mut self,
+        text: &str,
+        file: Option<&str>,
+        call: &Call<AnyJudge>,
+    ) -> anyhow::Result<()> {
+        let heap = self.rt.alloc();
+        let phase = mem::replace(&mut self.phase, Phase::Open(Open::new()));
+        let (next, entry) = make(heap, phase, call)?;
+        self.phase = next;
+        match &entry {
+            Entry::NotTaken => self.answer(text, self.not_taken()),
+            Entry::Wrote(Ok(bytes)) | Entry::Listed(Ok(bytes)) => {
+                self.answer(text, bytes_text(heap, bytes.as_slice())?.as_str())?;
+                self.output(file, bytes.as_slice())
+            }
+            _ => self.answer(text, entry_text(heap, &entry)?.as_str()),
+        }
     }
-}
 
-fn header_texts(rt: &HostRuntime, line: &HeaderLine, calendars: Option<&str>) -> io::Result<Texts> {
-    Ok(Texts {
-        headers: headers_at(rt, Some(line.file))?,
-        calendars: calendars_at(rt, calendars)?,
-        chain: Options {
-            base: line.base,
-            previous: line.previous,
-            ceiling: line.ceiling,
-        },
-    })
-}
+    fn not_taken(&self) -> Remark {
+        match self.phase {
+            Phase::Open(_) => Remark::WhileOpen,
+            Phase::Settled(_) => Remark::WhileSettled,
+        }
+    }
 
-// What is said of a line that is no call, or whose file cannot be had.
-fn remark(rt: &HostRuntime, state: &mut State, line: &str, said: Remark) -> anyhow::Result<()> {
-    state.well = false;
-    let text = remark_text(said);
-    println!(rt; "{line}: {text}")?;
-    Ok(())
-}
-
-// One line, with the file that it names.
-fn made(
-    rt: &HostRuntime,
-    state: &mut State,
-    line: &str,
-    call: &Line,
-    judge: &AnyJudge,
-) -> anyhow::Result<()> {
-    match *call {
-        Line::Blank => Ok(()),
-        Line::New => {
-            state.phase = Phase::Open(Open::new());
-            Ok(())
+    fn output(&mut self, file: Option<&str>, bytes: &[u8]) -> anyhow::Result<()> {
+        let rt = self.rt;
+        let Some(path) = file else {
+            return Ok(());
+        };
+        if !self.force && taken(rt, path) {
+            self.well = false;
+            eprintln!(rt; "tiphvanh: {path} exists; run --force overwrites it")?;
+            return Ok(());
         }
-        Line::Add(path) => match read(rt, path, ENOUGH) {
-            Ok(file) => answered(
-                rt,
-                state,
-                line,
-                "-",
-                &Call::Add::<AnyJudge>(file.as_slice()),
-            ),
-            Err(_) => remark(rt, state, line, Remark::Unread),
-        },
-        Line::Settle => answered(rt, state, line, "-", &Call::Settle::<AnyJudge>),
-        Line::Reopen => answered(rt, state, line, "-", &Call::Reopen::<AnyJudge>),
-        Line::Write { file, room } => {
-            let room = area(room);
-            answered(rt, state, line, file, &Call::Write::<AnyJudge> { room })
+        if let Err(error) = put(rt, path, bytes) {
+            self.well = false;
+            eprintln!(rt; "tiphvanh: {error}")?;
         }
-        Line::Row { k, work } => {
-            let work = area(work);
-            answered(rt, state, line, "-", &Call::Row { judge, k, work })
-        }
-        Line::Tally { work } => {
-            let work = area(work);
-            answered(rt, state, line, "-", &Call::Tally { judge, work })
-        }
-        Line::Sheet { file, room, work } => {
-            let room = area(room);
-            let work = area(work);
-            answered(rt, state, line, file, &Call::Sheet { judge, room, work })
-        }
-        _ => remark(rt, state, line, Remark::NoCall),
+        Ok(())
     }
 }
 
 fn area(asked: Option<usize>) -> usize {
-    match asked {
-        Some(size) => size.min(AREA),
-        None => AREA,
-    }
+    asked.unwrap_or(AREA).min(AREA)
 }
 
-// The call is made, and its line printed back with the answer. What it wrote goes to a path, unless that is `-`.
-fn answered(
-    rt: &HostRuntime,
-    state: &mut State,
-    line: &str,
-    path: &str,
-    call: &Call<AnyJudge>,
-) -> anyhow::Result<()> {
-    let phase = mem::replace(&mut state.phase, Phase::Open(Open::new()));
-    let (next, entry) = make(rt.alloc(), phase, call)?;
-    state.phase = next;
-    match &entry {
-        Entry::NotTaken => {
-            let text = remark_text(while_in(&state.phase));
-            println!(rt; "{line}: {text}")?;
-            Ok(())
-        }
-        Entry::Wrote(Ok(bytes)) | Entry::Listed(Ok(bytes)) => {
-            let text = bytes_text(rt.alloc(), bytes.as_slice())?;
-            println!(rt; "{line}: {text}")?;
-            output(rt, state, path, bytes.as_slice())
-        }
-        _ => {
-            let text = entry_text(rt, &entry)?;
-            println!(rt; "{line}: {text}")?;
-            Ok(())
-        }
-    }
-}
-
-fn while_in(phase: &Phase) -> Remark {
-    match phase {
-        Phase::Open(_) => Remark::WhileOpen,
-        Phase::Settled(_) => Remark::WhileSettled,
-    }
+// Where the bytes of a call go: `-` is no file.
+fn place(file: &str) -> Option<&str> {
+    (file != "-").then_some(file)
 }
 
 // The answers that wrote nothing.
-fn entry_text(rt: &HostRuntime, entry: &Entry) -> anyhow::Result<String> {
-    let heap = rt.alloc();
+fn entry_text(heap: Global, entry: &Entry) -> Result<String, AllocError> {
     match entry {
-        Entry::Added(answer) => Ok(added_text(heap, answer)?),
-        Entry::Read(answer) => Ok(row_text(heap, answer)?),
-        Entry::Tallied(answer) => Ok(tally_text(heap, answer)?),
-        Entry::Wrote(Err(refusal)) | Entry::Listed(Err(refusal)) => Ok(refusal_text(
-            heap, refusal,
-        )?),
-        _ => Ok(added_text(heap, &granted())?),
+        Entry::Added(answer) => added_text(heap, answer),
+        Entry::Read(answer) => row_text(heap, answer),
+        Entry::Tallied(answer) => tally_text(heap, answer),
+        Entry::Wrote(Err(refusal)) | Entry::Listed(Err(refusal)) => refusal_text(heap, refusal),
+        _ => added_text(heap, &Ok(())),
     }
-}
-
-fn granted() -> Result<(), Refusal> {
-    Ok(())
-}
-
-fn output(rt: &HostRuntime, state: &mut State, path: &str, bytes: &[u8]) -> anyhow::Result<()> {
-    if path == "-" {
-        return Ok(());
-    }
-    if !state.force && taken(rt, path) {
-        state.well = false;
-        eprintln!(rt; "tiphvanh: {path} exists; run --force overwrites it")?;
-        return Ok(());
-    }
-    if let Err(error) = put(rt, path, bytes) {
-        state.well = false;
-        eprintln!(rt; "tiphvanh: cannot write {path}: {error}")?;
-    }
-    Ok(())
 }

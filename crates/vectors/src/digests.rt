@@ -1,18 +1,24 @@
 // Prints the SHA-256 digests of the published test messages and of a message of every length up to 130 bytes.
 ghost use Rattle.std.specs.Prelude.{◌≡◌, ℕ, ◌+◌, ◌*◌, ◌/◌, ◌%◌, ◌<◌, slice_index};
 
-use std::io;
+use std::{array, io};
 
 const BITS_448: &[u8] = b"abcdbcdecdefdefgefghfghighijhijkijkljklmklmnlmnomnopnopq";
 
 const BITS_896: &[u8] =
     b"abcdefghbcdefghicdefghijdefghijkefghijklfghijklmghijklmnhijklmnoijklmnopjklmnopqklmnopqrlmnopqrsmnopqrstnopqrstu";
 
-// A line ends with the digest, two digits for each byte.
-pub fn finish_line(rt: &HostRuntime, message: &[u8]) -> io::Result<()> {
-    for byte in &sha256::sha256(message) {
+// Two digits for each byte.
+pub fn print_digits(rt: &HostRuntime, bytes: &[u8]) -> io::Result<()> {
+    for byte in bytes {
         print!(rt; "{:02x}", *byte)?;
     }
+    Ok(())
+}
+
+// A line ends with the digest.
+pub fn finish_line(rt: &HostRuntime, message: &[u8]) -> io::Result<()> {
+    print_digits(rt, &sha256::sha256(message))?;
     println!(rt; "")
 }
 
@@ -36,11 +42,7 @@ pub fn print_published(rt: &HostRuntime) -> anyhow::Result<()> {
 pub fn pattern() -> [u8; 4096]
     ensures { (i : ℕ) → i < 4096 → slice_index result i ≡ (i * 7 + i / 256 + 3) % 256 }
 {
-    let mut bytes = [0; 4096];
-    for i in 0..4096 {
-        bytes[i] = ((i * 7 + i / 256 + 3) % 256) as u8;
-    }
-    bytes
+    array::from_fn(|i| ((i * 7 + i / 256 + 3) % 256) as u8)
 }
 
 // The lengths at which the padding takes one block, fills it and takes two are all among these.
@@ -48,7 +50,7 @@ pub fn print_lengths(rt: &HostRuntime) -> io::Result<()> {
     let bytes = pattern();
     for n in 0..131 {
         print!(rt; "sha256 length-{n} ")?;
-        finish_line(rt, &bytes[0..n])?;
+        finish_line(rt, &bytes[..n])?;
     }
     Ok(())
 }

@@ -3,7 +3,7 @@ ghost use Rattle.std.specs.Prelude.{◌≡◌, ◌≤◌, take, IfSome};
 ghost use Rattle.format.specs.Operations.{op_of};
 ghost use Rattle.replay.specs.Messages.{apply};
 
-use crate::digests::{finish_line, pattern};
+use crate::digests::{finish_line, pattern, print_digits};
 use format::Kind;
 use proof::operations::result_size;
 use std::io;
@@ -13,12 +13,11 @@ pub fn print_bytes(rt: &HostRuntime, bytes: &[u8]) -> io::Result<()> {
     if bytes.is_empty() {
         print!(rt; "-")?;
     }
-    for byte in bytes {
-        print!(rt; "{:02x}", *byte)?;
-    }
+    print_digits(rt, bytes)?;
     print!(rt; " ")
 }
 
+// Kept: the words are those that the other implementation prints, and no `Display` of the library's type.
 fn name(kind: Kind) -> &'static str {
     match kind {
         Kind::Sha256 => "sha256",
@@ -41,8 +40,7 @@ fn applied(kind: Kind, argument: &[u8], message: &[u8], area: &mut [u8]) -> Opti
     if result_size(kind, size as u16, argument.len()) > 4096 {
         return None;
     }
-    let front = &mut area[0..size];
-    front.copy_from_slice(message);
+    area[..size].copy_from_slice(message);
     Some(replay::apply(kind, argument, area, size))
 }
 
@@ -60,17 +58,24 @@ fn print_applied(rt: &HostRuntime, kind: Kind, argument: &[u8], message: &[u8]) 
     };
     print!(rt; "{size} ")?;
     if size <= 64 {
-        print_bytes(rt, &area[0..size])?;
+        print_bytes(rt, &area[..size])?;
     }
-    finish_line(rt, &area[0..size])
+    finish_line(rt, &area[..size])
 }
 
+const KINDS: [Kind; 5] = [
+    Kind::Sha256,
+    Kind::Append,
+    Kind::Prepend,
+    Kind::Reverse,
+    Kind::Hexlify,
+];
+
 fn print_each(rt: &HostRuntime, argument: &[u8], message: &[u8]) -> io::Result<()> {
-    print_applied(rt, Kind::Sha256, argument, message)?;
-    print_applied(rt, Kind::Append, argument, message)?;
-    print_applied(rt, Kind::Prepend, argument, message)?;
-    print_applied(rt, Kind::Reverse, argument, message)?;
-    print_applied(rt, Kind::Hexlify, argument, message)
+    for kind in KINDS {
+        print_applied(rt, kind, argument, message)?;
+    }
+    Ok(())
 }
 
 pub fn print_small(rt: &HostRuntime) -> io::Result<()> {
@@ -85,12 +90,12 @@ pub fn print_small(rt: &HostRuntime) -> io::Result<()> {
 pub fn print_full(rt: &HostRuntime) -> io::Result<()> {
     let bytes = pattern();
     print_applied(rt, Kind::Sha256, b"", &bytes)?;
-    print_applied(rt, Kind::Append, &bytes[32..], &bytes[0..32])?;
-    print_applied(rt, Kind::Append, &bytes[4095..], &bytes[0..4095])?;
+    print_applied(rt, Kind::Append, &bytes[32..], &bytes[..32])?;
+    print_applied(rt, Kind::Append, &bytes[4095..], &bytes[..4095])?;
     print_applied(rt, Kind::Append, &bytes, b"")?;
-    print_applied(rt, Kind::Prepend, &bytes[0..4064], &bytes[4064..])?;
-    print_applied(rt, Kind::Prepend, &bytes[0..1], &bytes[1..])?;
+    print_applied(rt, Kind::Prepend, &bytes[..4064], &bytes[4064..])?;
+    print_applied(rt, Kind::Prepend, &bytes[..1], &bytes[1..])?;
     print_applied(rt, Kind::Prepend, &bytes, b"")?;
     print_applied(rt, Kind::Reverse, b"", &bytes)?;
-    print_applied(rt, Kind::Hexlify, b"", &bytes[0..2048])
+    print_applied(rt, Kind::Hexlify, b"", &bytes[..2048])
 }

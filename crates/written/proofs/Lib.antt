@@ -1,3 +1,5 @@
 -- Lemmas that several answers rest on.
 pub mod Numbers
-pub mod Fronts
+pub mod Rooms
+pub mod Ends
+pub mod Files

@@ -1,12 +1,9 @@
 -- What writing a file answers, and what it leaves in the out area.
-use Rattle.std.specs.Prelude.{ℕ, ◌-◌, ◌^◌, min, Bool, cond, ◌&&◌, List, ◌++◌, length, drop, Some, None, Option, nat_le}
+use Rattle.std.specs.Prelude.{ℕ, Bool, cond, ◌&&◌, List, ◌++◌, length, drop, Some, None, Option, nat_le}
 use Rattle.format.specs.Files.{file_limit}
 use Rattle.claim_trees.specs.Tree.{Held}
 use Rattle.claim_trees.specs.Bytes.{file_bytes}
-
--- as much of a length as a machine number holds
-abbrev pub capped : ℕ → ℕ
-capped n = min n (2 ^ 64 - 1)
+pub use Rattle.claims.specs.Sizes.{capped}
 
 -- the answer, and the out area after
 pub record Wrote : Type 0 where

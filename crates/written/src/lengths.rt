@@ -1,28 +1,12 @@
 // How many bytes are written. Sums stop at the largest machine number, so that no tree, however large, is measured short.
 ghost use Rattle.std.specs.Prelude.{◌≡◌, ◌+◌, ◌≤◌, length};
-ghost use Rattle.claim_trees.specs.Bytes.{shortest, none, nil};
+ghost use Rattle.claim_trees.specs.Bytes.{shortest, none};
 ghost use Rattle.claim_trees.specs.Onto.{block_length, op_length, att_length, ff_length, marks_length, branches_length, node_length};
-ghost use Rattle.claims.specs.Models.{op, att, atts, tree};
+ghost use Rattle.claims.specs.Models.{op, att, atts, tree, node};
 ghost use Rattle.written.specs.Writing.{capped};
 
+use claims::size::number_length;
 use claims::tree::{Attestation, Branches, Marks, Node, Operation};
-
-pub(crate) fn number_length(n: usize) -> usize
-    ensures value { result ≡ length (shortest n) }
-    ensures bound { result ≤ 5 }
-{
-    if n < 0x80 {
-        1
-    } else if n < 0x4000 {
-        2
-    } else if n < 0x20_0000 {
-        3
-    } else if n < 0x1000_0000 {
-        4
-    } else {
-        5
-    }
-}
 
 // A length and that many bytes.
 pub(crate) fn block_length(bytes: &[u8]) -> usize
@@ -62,22 +46,12 @@ fn attestation_length(a: &Attestation) -> usize
     }
 }
 
-pub(crate) fn nothing(m: &Marks) -> bool
-    ensures { result ≡ nil (atts m.now) }
-{
-    match m {
-        Marks::Done => true,
-        Marks::Next(_) => false,
-    }
-}
-
+// Whether no branch stands here.
+// Kept: with `is_none` itself in its place the proofs of the two functions over branches did not close.
 pub(crate) fn ended(b: &Branches) -> bool
     ensures { result ≡ none (tree b.now) }
 {
-    match b {
-        Branches::End => true,
-        Branches::More(_) => false,
-    }
+    b.is_none()
 }
 
 // The ff before an item, unless it is the last of its node.
@@ -91,10 +65,10 @@ fn marks_length(m: &Marks, alone: bool) -> usize
     ensures { result ≡ capped (marks_length (atts m.now) alone) }
 {
     match m {
-        Marks::Done => 0,
-        Marks::Next(x) => {
+        None => 0,
+        Some(x) => {
             let x = &**x;
-            let first = ff_length(nothing(&x.rest) && alone).saturating_add(attestation_length(
+            let first = ff_length(x.rest.is_none() && alone).saturating_add(attestation_length(
                 &x.attestation,
             ));
             first.saturating_add(marks_length(&x.rest, alone))
@@ -106,8 +80,8 @@ fn branches_length(b: &Branches) -> usize
     ensures { result ≡ capped (branches_length (tree b.now)) }
 {
     match b {
-        Branches::End => 0,
-        Branches::More(x) => {
+        None => 0,
+        Some(x) => {
             let x = &**x;
             let item = ff_length(ended(&x.rest)).saturating_add(operation_length(&x.operation));
             let marks = marks_length(&x.below.marks, ended(&x.below.branches));
@@ -121,7 +95,7 @@ fn branches_length(b: &Branches) -> usize
 }
 
 pub(crate) fn node_length(n: &Node) -> usize
-    ensures { result ≡ capped (node_length (atts n.now.marks) (tree n.now.branches)) }
+    ensures { result ≡ capped (node_length (node n.now).marks (node n.now).branches) }
 {
     let marks = marks_length(&n.marks, ended(&n.branches));
     marks.saturating_add(branches_length(&n.branches))

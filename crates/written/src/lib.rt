@@ -6,4 +6,4 @@ mod items;
 mod lengths;
 mod nodes;
 pub mod payload;
-mod puts;
+pub mod writer;

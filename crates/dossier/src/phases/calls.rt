@@ -6,7 +6,6 @@ ghost use Rattle.dossier.specs.Refusals.{answered};
 ghost use Rattle.dossier.specs.Phases.{open_dossier, settled_dossier};
 
 use crate::adding::add;
-use crate::held::Held;
 use crate::phases::{Open, Settled};
 use crate::refusal::Refusal;
 use crate::reporting::{row, tally};
@@ -25,7 +24,7 @@ impl Open {
     {
         let _law = law_of_runs();
         let _begun = runs_begin();
-        Open { held: Held::Blank }
+        Open { held: None }
     }
 
     // The claims of the file are joined to those held. A refusal changes nothing.

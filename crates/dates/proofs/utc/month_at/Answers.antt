@@ -5,7 +5,7 @@ use Rattle.dates.proofs.Days.{months_zero, months_more, months_whole, month_is}
 use Rattle.dates.proofs.utc.month_at.Goals as goal
 
 pub loop-passed-init : goal.loop-passed-init
-loop-passed-init c = (sym (months_zero c.args.year), omega arith, omega arith)
+loop-passed-init c = (sym (months_zero c.args.year), omega arith)
 
 pub loop-passed-preserved : goal.loop-passed-preserved
 loop-passed-preserved c =
@@ -15,7 +15,7 @@ loop-passed-preserved c =
     let s : n + 1 ≡ 1 + n = omega arith in
     let v : c.month_days-length.result ≡ month_days year (1 + n) = c.month_days-length.ensures.value ∙ ap (month_days year) s in
     let i = c.loop-passed.invariant.0 in
-    (omega arith, omega arith, omega arith)
+    (omega arith, omega arith)
 
 pub returns-then-day-before : goal.returns-then-day-before
 returns-then-day-before c =
@@ -49,6 +49,6 @@ returns c =
       bound = omega arith;
       early = omega arith;
       late = omega arith;
-      value = e ∙ sym y;
+      value = sym y;
       before = b ∙ ap (days_before_month year) (sym y);
     }

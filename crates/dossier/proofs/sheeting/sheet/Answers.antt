@@ -1,8 +1,8 @@
-use Rattle.std.proofs.Common.{◌∙◌}
+use Rattle.std.proofs.Common.{ℕ, List, ◌++◌, ap, arith, ◌∙◌}
 use Rattle.std.proofs.lemmas.Bool.{cond_above}
-use Rattle.replay.proofs.Leaving.{guards_leave}
 use Rattle.runs.specs.Answers.{fitted, placed}
 use Rattle.runs.specs.Sheets.{sheet_in}
+use Rattle.dossier.proofs.Outs.{leaves}
 use Rattle.dossier.specs.Models.{content_of}
 use Rattle.dossier.specs.Refusals.{answered}
 use Rattle.dossier.proofs.sheeting.sheet.Goals as goal
@@ -14,5 +14,6 @@ returns g c =
     record {
       answer = cond_above _ _ _ (fitted bytes c.args.out.now) (answered c.sheet_in.result) c.if-work-lt-ROOM.false c.sheet_in.ensures.answer;
       out = cond_above _ _ _ (placed bytes c.args.out.now) c.sheet_in.new.out c.if-work-lt-ROOM.false c.sheet_in.ensures.out;
-      work = c.drop-area.ensures ∙ guards_leave xs c.sheet_in.new.work c.if-work-lt-ROOM.false c.sheet_in.ensures.kept;
+      work = ap (λ (x : List ℕ). x ++ c.split_at_mut-front.result.1.now) c.drop-lent.ensures
+          ∙ leaves xs c.sheet_in.new.front c.split_at_mut-front.result.1.now c.if-work-lt-ROOM.false (omega arith) c.split_at_mut-front.ensures.back;
     }

@@ -4,5 +4,5 @@ use Rattle.dossier.specs.Phases.{open_dossier}
 use Rattle.history.specs.Merging.{files_of, grants}
 use Rattle.history.proofs.merging.gather_pieces.Given as goal
 
-abbrev pub invariant-loop-i : goal.invariant-loop-i
-invariant-loop-i l = Run (grants (take l.i (files_of l.pieces))) (open_dossier l.dossier)
+abbrev pub invariant-loop-place : goal.invariant-loop-place
+invariant-loop-place l = Run (grants (take l.place (files_of l.pieces))) (open_dossier l.dossier)

@@ -1,18 +1,14 @@
-use Rattle.std.proofs.Common.{◌≡◌, ◌+◌, ◌-◌, ◌≤◌, ◌++◌, length, take, drop}
-use Rattle.claims.specs.Models.{node}
-use Rattle.runs.specs.Contents.{about}
+use Rattle.std.proofs.Common.{◌≡◌, ◌+◌, ◌++◌, length}
+use Rattle.rows.specs.Models.{content_about}
 use Rattle.listing.specs.Left.{lines_left}
+use Rattle.written.specs.Writers.{written}
 use Rattle.listing.proofs.lines.put_lines.Given as goal
 
-abbrev pub invariant-loop-row : goal.invariant-loop-row
-invariant-loop-row g l =
+abbrev pub invariant-loop-k : goal.invariant-loop-k
+invariant-loop-k g l =
     let m = g.J.Judge.meaning l.judge in
-    let s = about l.digest (node l.top) in
-    (length l.work ≡ length l.initial.work)
-    × (drop 4096 l.work ≡ drop 4096 l.initial.work)
-    × (l.k ≤ 128)
-    × (l.at + length (lines_left m s l.k) ≡ length (lines_left m s 0))
-    × (take l.at l.out ++ lines_left m s l.k ≡ lines_left m s 0)
-
-abbrev pub decreases-loop-row : goal.decreases-loop-row
-decreases-loop-row g l = 128 - l.k
+    let s = content_about l.about in
+    (l.w.out.ghost_name ≡ l.fn.w.out.ghost_name)
+    × (length l.w.out.now ≡ length l.fn.w.out.now)
+    × (l.w.at + length (lines_left m s l.k) ≡ l.fn.w.at + length (lines_left m s 0))
+    × (written l.w ++ lines_left m s l.k ≡ written l.fn.w ++ lines_left m s 0)

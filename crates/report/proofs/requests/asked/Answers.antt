@@ -1,32 +1,34 @@
-use Rattle.std.proofs.Common.{◌≡◌, map, length, drop, Err, vec_items, vec_len, string_bytes, sym, refl, ap, ◌∙◌, arith}
-use Rattle.std.proofs.lemmas.List.{length-map}
+use Rattle.std.proofs.Common.{Err, sym, ap, ◌∙◌, arith}
+use Rattle.std.proofs.lemmas.List.{take_rest}
 use Rattle.std.proofs.lemmas.Result.{err_from_is_err_and}
+use Rattle.std.specs.List.{slice_get}
 use Rattle.report.specs.declared.options.Wrong.{Wrong}
-use Rattle.report.specs.Requests.{request_from}
-use Rattle.report.proofs.Walks.{onward, stopped, all_asked}
+use Rattle.report.specs.Options.{stepped}
+use Rattle.report.specs.Requests.{behind}
+use Rattle.report.proofs.Walks.{front, shorter, onward, stopped, all_asked}
 use Rattle.report.proofs.requests.asked.Goals as goal
 
-pub returns-in_err-next : goal.returns-in_err-next
-returns-in_err-next c =
-    let ws = map string_bytes (vec_items c.args.words.now) in
-    let n : length ws ≡ vec_len c.args.words.now = length-map _ _ ∙ sym c.args.words.now.ok.0 in
+pub returns-in_err-request : goal.returns-in_err-request
+returns-in_err-request c =
+    let left = c.loop-left.left.now in
+    let v = c.copied.ensures ∙ c.first.ensures.value ∙ ap (λ ws. slice_get ws 0) (take_rest left 1) in
     let p = err_from_is_err_and c.from_residual.result c.from_residual.ensures.1 in
     p.1 ∙ ap (λ (w : Wrong). Err w) p.2
-    ∙ sym (c.loop-at.invariant ∙ stopped ws c.loop-at.at c.loop-at.request c.in_err-next.field-0.0 (omega arith) (sym c.in_err-next.ensures))
+    ∙ sym (c.loop-left.invariant ∙ stopped c.loop-left.request c.in_err-request.field-0.0 left c.in-len1-up.len_at_least (ap (stepped c.loop-left.request (front left)) (sym v) ∙ sym c.in_err-request.ensures))
 
-pub loop-at-preserved : goal.loop-at-preserved
-loop-at-preserved c =
-    let ws = map string_bytes (vec_items c.args.words.now) in
-    let n : length ws ≡ vec_len c.args.words.now = length-map _ _ ∙ sym c.args.words.now.ok.0 in
-    c.loop-at.invariant
-    ∙ onward ws c.loop-at.at c.loop-at.request c.in_ok-next.next (omega arith) (sym c.in_ok-next.ensures)
-    ∙ ap (λ k. request_from k c.in_ok-next.next (drop k ws)) (sym c.next_place-at.ensures.value)
+pub loop-left-smaller : goal.loop-left-smaller
+loop-left-smaller c =
+    let left = c.loop-left.left.now in
+    shorter left c.behind-left.result.now c.in-len1-up.len_at_least (c.behind-left.ensures ∙ ap (behind (front left).now) (take_rest left 1))
+
+pub loop-left-preserved : goal.loop-left-preserved
+loop-left-preserved c =
+    let left = c.loop-left.left.now in
+    let v = c.copied.ensures ∙ c.first.ensures.value ∙ ap (λ ws. slice_get ws 0) (take_rest left 1) in
+    c.loop-left.invariant
+    ∙ onward c.loop-left.request c.in_ok-request.request left c.behind-left.result.now c.in-len1-up.len_at_least
+    (ap (stepped c.loop-left.request (front left)) (sym v) ∙ sym c.in_ok-request.ensures)
+    (c.behind-left.ensures ∙ ap (behind (front left).now) (take_rest left 1))
 
 pub returns : goal.returns
-returns c =
-    let ws = map string_bytes (vec_items c.args.words.now) in
-    let n : length ws ≡ vec_len c.args.words.now = length-map _ _ ∙ sym c.args.words.now.ok.0 in
-    sym (c.loop-at.invariant ∙ all_asked ws c.loop-at.at c.loop-at.request (omega arith))
-
-pub loop-at-init : goal.loop-at-init
-loop-at-init c = refl
+returns c = sym (c.loop-left.invariant ∙ all_asked c.loop-left.request c.loop-left.left.now (omega (arith, c.in_default.len_below)))

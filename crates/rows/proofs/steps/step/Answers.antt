@@ -9,7 +9,7 @@ use Rattle.rows.proofs.steps.step.Goals as goal
 pub returns : goal.returns
 returns c =
     let o = op c.args.operation.now in
-    let k : c.kind_of.result ≡ kind_of_op o = c.kind_of.ensures in
+    let k : c.kind.result ≡ kind_of_op o = c.kind.ensures in
     let a : c.argument.result.now ≡ argument_of o = c.argument.ensures in
     let m = take c.args.size c.args.work.now in
     record {
@@ -20,5 +20,4 @@ returns c =
           ∙ ap (λ z. apply (op_of z c.argument.result.now) m) k
           ∙ ap (λ z. apply (op_of (kind_of_op o) z) m) a
           ∙ ap (λ z. apply z m) (parted o);
-      kept = c.apply.ensures.kept;
     }

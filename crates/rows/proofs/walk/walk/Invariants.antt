@@ -1,17 +1,13 @@
 use Rattle.std.proofs.Common.{take}
 use Rattle.std.specs.List.{slice_get}
 use Rattle.claim_trees.specs.Tree.{claims}
-use Rattle.claims.specs.Models.{atts, tree}
-use Rattle.claims.proofs.tree.Branches.TheLaws.{the_size}
+use Rattle.claims.specs.Models.{tree, node}
 use Rattle.rows.specs.Places.{shown}
 use Rattle.rows.proofs.Walks.{Walking}
 use Rattle.rows.proofs.walk.walk.Given as goal
 
 abbrev pub invariant-loop-branches : goal.invariant-loop-branches
 invariant-loop-branches l =
-    Walking l.initial.work
-    (shown 0 (take l.start l.initial.work) (slice_get (claims (atts l.top.marks) (tree l.top.branches)) l.row))
+    Walking
+    (shown 0 (take l.start l.initial.work) (slice_get (claims (node l.top).marks (node l.top).branches) l.row))
     l.work l.size l.k l.operations (tree l.branches)
-
-abbrev pub decreases-loop-branches : goal.decreases-loop-branches
-decreases-loop-branches l = the_size l.branches

@@ -1,16 +1,11 @@
-use Rattle.std.proofs.Common.{length, ap, arith, rules}
-use Rattle.script.specs.Words.{words_of}
-use Rattle.script.proofs.Splits.{none_left, one_less}
+use Rattle.std.proofs.Common.{length, not, ◌==◌, lit<, rules, tests}
+use Rattle.std.proofs.lemmas.Iterator.Consumers.{YieldsList-at, YieldsList-from_filter, count_from_yields_List}
+use Rattle.std.proofs.lemmas.Iterator.Splits.{YieldsList-from_str_split}
 use Rattle.script.proofs.words.count.Goals as goal
 
-pub returns-then-next-eq0 : goal.returns-then-next-eq0
-returns-then-next-eq0 c =
-    let w = ap length c.next_word-next.ensures.word in
-    omega (arith, none_left c.loop-next.left.now (omega arith), c.loop-next.invariant.1)
-
-pub loop-next-preserved : goal.loop-next-preserved
-loop-next-preserved c =
-    let w = ap length c.next_word-next.ensures.word in
-    let r = ap length c.next_word-next.ensures.rest in
-    let o = one_less (words_of c.loop-next.left.now) (omega arith) in
-    (search rules, omega (arith, c.loop-next.invariant.1), omega (arith, c.next_word-next.ensures.bound, c.loop-next.invariant.2))
+pub returns : goal.returns
+returns c =
+    count_from_yields_List c.filter.result _ c.count.ensures.ran
+    (YieldsList-from_filter _ (λ w. not (length w == 0))
+    (YieldsList-at c.filter.ensures.source (YieldsList-from_str_split 32 c.args.text.now (lit< tt) c.split.ensures.text c.split.ensures.has_more c.split.ensures.pattern))
+    c.filter.ensures.closure (λ x r q k. search (rules, tests)))

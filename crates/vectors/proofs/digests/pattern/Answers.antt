@@ -1,12 +1,5 @@
-use Rattle.std.proofs.Common.{◌<◌, ◌≢◌, length, arith, get_or-set_other, get_or-set_same, below_more}
-use Rattle.std.proofs.lemmas.List.{length-set}
+use Rattle.std.proofs.Common.{rules}
 use Rattle.vectors.proofs.digests.pattern.Goals as goal
 
-pub loop-i-preserved : goal.loop-i-preserved
-loop-i-preserved c =
-    let lt : c.loop-i.i < length c.loop-i.bytes = omega arith in (
-      simp length-set c.loop-i.invariant.0,
-      below_more _ _
-          (λ k h. let ne : k ≢ c.loop-i.i = omega arith in rw get_or-set_other (c.loop-i.invariant.1 k h))
-          (rw get_or-set_same),
-    )
+pub returns : goal.returns
+returns c = λ i h. let called = (c.from_fn.ensures.items.at i 0 h).2 in search rules

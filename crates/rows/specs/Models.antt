@@ -1,0 +1,7 @@
+-- What a digest and the tree of its claims stand for.
+use Rattle.claims.specs.Models.{node}
+use Rattle.runs.specs.Contents.{Content, about}
+use Rattle.rows.specs.declared.held.About.{About}
+
+abbrev pub content_about : About → Content
+content_about a = about a.digest (node a.top)
