@@ -51,6 +51,7 @@ pub fn bits(text: &[u8]) -> Option<u32>
 }
 
 // A decimal number; a plus may stand before it.
+#[tactic(auto, using(crate::proofs::Numerals::decimal_parses))]
 pub fn number(text: &str) -> Option<u32>
     ensures { result ≡ number_read text.now }
 {

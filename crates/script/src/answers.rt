@@ -31,13 +31,19 @@ impl fmt::Display for Remark {
     ghost output = { λ said. Some (remark_text said) };
 
     fn fmt<W: fmt::Write>(&self, f: &mut fmt::Formatter<W>) -> fmt::Result {
-        f.write_str(match self {
-            Remark::WhileSettled => "not taken while settled",
-            Remark::WhileOpen => "not taken while open",
-            Remark::NoCall => "not a call",
-            Remark::Unread => "cannot be read",
-            Remark::Unwritten => "cannot be written",
-        })
+        f.write_str(remark_text(*self))
+    }
+}
+
+pub fn remark_text(said: Remark) -> &'static str
+    ensures { result.now ≡ remark_text said }
+{
+    match said {
+        Remark::WhileSettled => "not taken while settled",
+        Remark::WhileOpen => "not taken while open",
+        Remark::NoCall => "not a call",
+        Remark::Unread => "cannot be read",
+        Remark::Unwritten => "cannot be written",
     }
 }
 

@@ -8,6 +8,7 @@ use std::array;
 const MOST: usize = 9;
 
 // The words of a line: how many there are, and the first nine; those that are not there are empty.
+// Kept: a count beside nine places, and no list of words: a line is split without memory, and that cannot fail.
 #[derive(Clone, Copy)]
 pub struct Words<'a> {
     pub count: usize,

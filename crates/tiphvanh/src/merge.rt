@@ -135,7 +135,7 @@ fn written(
     merged: &Merged,
     proof: &[u8],
 ) -> anyhow::Result<()> {
-    // Kept: two matches with a question mark in an arm; `map` and `transpose` over them are no plainer.
+    // Kept: two matches; a closure for `map` and `transpose` would have to write out the type of a pair in a result.
     let sheet = match order.sheet {
         Some(path) => Some((path, listed(rt, "sheet", &merged.dossier, judge)?)),
         None => None,
