@@ -9,8 +9,8 @@ pub struct Open {
     held: Option<About>,
 }
 
-// A dossier that is written and reported, with the same invariant.
-// Kept: a type of its own with the same field, a rule of the project: adding to a settled dossier must not build.
+// A dossier that is written and reported; it holds the same.
+// Kept: two types, a rule of the project; one with a parameter for the phase would name it in every signature, and be no plainer.
 #[derive(Drop)]
 pub struct Settled {
     held: Option<About>,

@@ -1,7 +1,7 @@
 // A call, with what it is given.
 
 // Areas are given by their size: they are lent full of zeros.
-// Kept: an enum that two functions match, since a record says which call was made, and a closure in its place could not be recorded.
+// Kept: an enum; the clause of a record says which calls were made, and a closure in the place of a call says nothing of that.
 #[derive(Clone, Copy)]
 pub enum Call<'a, J> {
     Add(&'a [u8]),

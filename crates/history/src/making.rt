@@ -35,7 +35,7 @@ fn written(
     }
 }
 
-// Kept: as the file above; a closure that cuts the area and hands it on by value is no plainer than these arms.
+// Kept: ends as the file above; a function for both would be handed the area and the answer and give back either, and be no plainer.
 fn listed<J: Judge>(
     heap: Global,
     dossier: &Settled,

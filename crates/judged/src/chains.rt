@@ -27,7 +27,7 @@ pub fn made(base: u32) -> Chain {
     }
 }
 
-// Kept: the words are this program's own, and no `Display` of the library's type.
+// Kept: the type is another crate's, so its `Display` cannot stand here, and a wrapper for it would be no plainer than a function.
 fn words(ending: Ending) -> &'static str {
     match ending {
         Ending::Ceiling => "the ceiling is unlawful",

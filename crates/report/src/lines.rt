@@ -48,7 +48,7 @@ pub fn refused_piece_line(heap: Global, path: &str, refusal: &Refusal) -> Result
 }
 
 // A refusal in words; want of memory needs none.
-// Kept: an impl of Display would stand in the crate that has the type, and these words are the program's own.
+// Kept: the type is another crate's, so its `Display` cannot stand here, and a wrapper for it would be no plainer than a function.
 fn reason(refusal: &Refusal) -> &'static str
     ensures { result.now ≡ reason_text refusal.now }
 {

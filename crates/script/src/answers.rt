@@ -85,7 +85,7 @@ pub fn added_text(heap: Global, answer: &Result<(), Refusal>) -> Result<String, 
     answer_text(heap, answer, |_| String::from_str(heap, "granted"))
 }
 
-// Kept: an impl of Display would stand in the crate that has the type, and the answers' words are the program's own.
+// Kept: the type is another crate's, so its `Display` cannot stand here, and a wrapper for it would be no plainer than a function.
 fn verdict_text(heap: Global, verdict: Verdict) -> Result<String, AllocError>
     ensures { IfOk result (λ s. string_bytes s ≡ verdict_text verdict) }
 {

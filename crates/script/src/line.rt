@@ -22,6 +22,7 @@ pub enum Judges<'a> {
     Both(HeaderLine<'a>, &'a str),
 }
 
+// Kept: an enum beside the calls of a dossier, since files are not read here, and a judge is named and not given.
 #[derive(Clone, Copy)]
 pub enum Line<'a> {
     Blank,

@@ -17,7 +17,7 @@ pub fn print_bytes(rt: &HostRuntime, bytes: &[u8]) -> io::Result<()> {
     print!(rt; " ")
 }
 
-// Kept: the words are those that the other implementation prints, and no `Display` of the library's type.
+// Kept: the type is another crate's, so its `Display` cannot stand here, and a wrapper for it would be no plainer than a function.
 fn name(kind: Kind) -> &'static str {
     match kind {
         Kind::Sha256 => "sha256",
