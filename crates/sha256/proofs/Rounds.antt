@@ -47,12 +47,13 @@ rounds_take v k w m (suc n) h =
     let le : n ≤ m = omega arith in
     rw (rounds_take v k w m n le, get_or-take m k n 0 lt)
 
--- the constants in rows of sixteen; the first row stands by itself
-pub row_at : (i : ℕ) (d : List ℕ) → i < 3 → get_or (take 16 (drop 16 K) ∷ take 16 (drop 32 K) ∷ take 16 (drop 48 K) ∷ []) i d ≡ take 16 (drop (16 * (i + 1)) K)
+-- the constants in rows of sixteen
+pub row_at : (i : ℕ) (d : List ℕ) → i < 4 → get_or (take 16 K ∷ take 16 (drop 16 K) ∷ take 16 (drop 32 K) ∷ take 16 (drop 48 K) ∷ []) i d ≡ take 16 (drop (16 * i) K)
 row_at zero d h = refl
 row_at (suc zero) d h = refl
 row_at (suc (suc zero)) d h = refl
-row_at (suc (suc (suc i))) d h = absurd (omega arith)
+row_at (suc (suc (suc zero))) d h = refl
+row_at (suc (suc (suc (suc i)))) d h = absurd (omega arith)
 
 -- sixteen rounds more, from some round on, take the window that begins with that round's word
 pub rounds_window :

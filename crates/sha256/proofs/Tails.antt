@@ -1,8 +1,8 @@
 -- Bytes written over others: the last blocks as they are made, and the digest word by word.
-use Rattle.std.proofs.Common.{◌≡◌, ℕ, suc, ◌+◌, ◌-◌, ◌/◌, ◌%◌, ◌≤◌, List, ◌∷◌, ◌++◌, map, length, get_or, take, drop, set, replicate, sym, refl, ap, ◌∙◌, subst, arith}
+use Rattle.std.proofs.Common.{◌≡◌, ℕ, ◌+◌, ◌-◌, ◌/◌, ◌%◌, ◌<◌, ◌≤◌, List, ◌∷◌, ◌++◌, map, length, get_or, take, drop, set, replicate, sym, refl, ap, ◌∙◌, subst, arith}
 use Rattle.std.specs.List.{range_with_len}
 use Rattle.std.proofs.lemmas.List.FromFn.{fill_by_all}
-use Rattle.std.proofs.lemmas.List.{take_at, length-append, length-take-le, length-drop, drop_all, append-nil, append_assoc, set_at, drop-replicate, length-replicate, replicate-append-replicate}
+use Rattle.std.proofs.lemmas.List.{take_at, length-append, length-take-le, length-drop, drop_all, append-nil, append_assoc, drop-set, drop-replicate, length-replicate, replicate-append-replicate}
 use Rattle.sha256.specs.Words.{word_bytes}
 use Rattle.sha256.specs.Sha256.{digest}
 use Rattle.sha256.specs.Working.{overwritten}
@@ -26,11 +26,11 @@ zeros_apart :
     (rest : List ℕ) (m n : ℕ) → rest ++ 0x80 ∷ replicate (m + n) 0 ≡ (rest ++ 0x80 ∷ replicate m 0) ++ replicate n 0
 zeros_apart rest m n = rw (append_assoc, ← replicate-append-replicate)
 
--- the end of a message, the byte 80 and eight bytes of length, written over zeros
+-- the byte 80 and eight bytes of length, written over zeros around the end of a message
 pub tail_is :
     (rest bits : List ℕ) (n e : ℕ)
     → length rest ≡ n → n + 9 ≤ e → length bits ≡ 8
-    → overwritten (set (overwritten (replicate e 0) 0 rest) n 0x80) (e - 8) bits
+    → overwritten (overwritten (set (replicate e 0) n 0x80) 0 rest) (e - 8) bits
     ≡ rest ++ (0x80 ∷ (replicate (e - 9 - n) 0 ++ bits))
 unfolding overwritten
 tail_is rest bits n e r low l =
@@ -38,17 +38,17 @@ tail_is rest bits n e r low l =
     let some = rest ++ 0x80 ∷ z (e - 9 - n) in
     let all = rest ++ 0x80 ∷ z (e - 1 - n) in
     let start : 0 + length rest ≡ n = omega arith in
-    let left : e - n ≡ suc (e - 1 - n) = omega arith in
-    let behind : drop (0 + length rest) (z e) ≡ 0 ∷ z (e - 1 - n) =
-    ap (λ k. drop k (z e)) start ∙ drop-replicate n e 0 ∙ ap z left in
-    let marked : set (rest ++ drop (0 + length rest) (z e)) n 0x80 ≡ all =
-    ap (λ t. set (rest ++ t) n 0x80) behind ∙ set_at rest 0 (z (e - 1 - n)) 0x80 n r in
+    let lt : n < length (z e) = simp length-replicate (omega arith) in
+    let left : e - (n + 1) ≡ e - 1 - n = omega arith in
+    let behind : drop (0 + length rest) (set (z e) n 0x80) ≡ 0x80 ∷ z (e - 1 - n) =
+    ap (λ k. drop k (set (z e) n 0x80)) start ∙ drop-set (z e) n 0x80 lt
+    ∙ ap (λ t. 0x80 ∷ t) (drop-replicate (n + 1) e 0 ∙ ap z left) in
     let sum : e - 1 - n ≡ (e - 9 - n) + 8 = omega arith in
     let parts : all ≡ some ++ z 8 =
     ap (λ k. rest ++ 0x80 ∷ z k) sum ∙ zeros_apart rest (e - 9 - n) 8 in
     let long-some : length some ≡ e - 8 = simp (length-append, length-replicate) (omega arith) in
     let short-all : length all ≤ e - 8 + length bits = simp (length-append, length-replicate) (omega arith) in
-    ap (λ t. overwritten t (e - 8) bits) marked
+    ap (λ t. overwritten (rest ++ t) (e - 8) bits) behind
     ∙ ap (λ t. take (e - 8) all ++ (bits ++ t)) (drop_all (e - 8 + length bits) all short-all)
     ∙ ap (λ t. take (e - 8) all ++ t) (append-nil bits)
     ∙ ap (λ t. take (e - 8) t ++ bits) parts

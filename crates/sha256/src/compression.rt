@@ -53,16 +53,18 @@ fn sixteen_rounds(v: [u32; 8], k: &[u32; 16], w: &[u32; 16]) -> [u32; 8]
     round_at(v15, k, w, 15)
 }
 
-// The rounds of a block whose words are `first`, sixteen to a turn, each turn but the first with the next window of the
-// schedule. So the last turn makes no words that nobody reads.
+// The rounds of a block whose words are `first`, sixteen to a turn, each turn with the next window of the schedule.
+// The window moves at the start of a turn and not at its end, so that the last turn makes no words that nobody reads.
 fn all_rounds(hash: [u32; 8], first: [u32; 16]) -> [u32; 8]
     ensures { result ≡ rounds hash K (extended first 48) 64 }
 {
+    let mut v = hash;
     let mut w = first;
-    let mut v = sixteen_rounds(hash, &ROUND_CONSTANTS[0], &w);
-    for k in &ROUND_CONSTANTS[1..] {
-        let next = next_window(w);
-        w = next;
+    for (j, k) in ROUND_CONSTANTS.iter().enumerate() {
+        if j > 0 {
+            let next = next_window(w);
+            w = next;
+        }
         let after = sixteen_rounds(v, k, &w);
         v = after;
     }

@@ -26,8 +26,10 @@ pub(crate) fn last_blocks<const N: usize>(rest: &[u8], len: usize) -> [u8; N]
     ensures { result ≡ rest.now ++ padding len }
 {
     let mut bytes = [0; N];
-    overwrite(&mut bytes, 0, rest);
+    // This comes before `rest`: else the compiler clears only what `rest` leaves, by a call of `memset`, which the archives
+    // for C would then need.
     bytes[rest.len()] = 0x80;
+    overwrite(&mut bytes, 0, rest);
     let bits = bit_length(len);
     overwrite(&mut bytes, N - 8, &bits);
     bytes

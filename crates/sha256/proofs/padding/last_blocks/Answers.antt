@@ -1,4 +1,4 @@
-use Rattle.std.proofs.Common.{◌≡◌, ◌+◌, ◌-◌, ◌≤◌, ◌∷◌, ◌++◌, length, set, replicate, refl, ap, ◌∙◌, arith}
+use Rattle.std.proofs.Common.{◌≡◌, ◌+◌, ◌-◌, ◌≤◌, ◌∷◌, ◌++◌, length, replicate, refl, ap, ◌∙◌, arith}
 use Rattle.sha256.specs.Sha256.{padding, zeros}
 use Rattle.sha256.specs.Working.{overwritten}
 use Rattle.sha256.proofs.Blocks.{length_padding}
@@ -15,7 +15,7 @@ returns g c =
     let low : n + 9 ≤ g.row.N = omega (arith, length_padding len) in
     let least : g.row.N - 9 - n ≡ zeros len = omega (arith, length_padding len) in
     c.overwrite-2.ensures
-    ∙ ap (λ t. overwritten (set t n 0x80) (g.row.N - 8) bits) c.overwrite.ensures
+    ∙ ap (λ t. overwritten t (g.row.N - 8) bits) c.overwrite.ensures
     ∙ tail_is rest bits n g.row.N refl low (ap length c.bit_length-bits.ensures)
     ∙ ap (λ k. rest ++ 0x80 ∷ (replicate k 0 ++ bits)) least
     ∙ ap (λ t. rest ++ 0x80 ∷ (replicate (zeros len) 0 ++ t)) c.bit_length-bits.ensures
