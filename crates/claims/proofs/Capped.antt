@@ -3,7 +3,7 @@ use Rattle.std.proofs.Common.{◌≡◌, ℕ, ◌+◌, ◌-◌, ◌^◌, ◌<◌
 use Rattle.std.proofs.lemmas.Bool.Decides.{nat_tests}
 use Rattle.format.specs.Operations.{Op}
 use Rattle.format.specs.Attestations.{Att}
-use Rattle.claim_trees.specs.Tree.{Tree, end, more, Held}
+use Rattle.claim_trees.specs.Tree.{Tree, end, more, Held, held}
 use Rattle.claim_trees.specs.Order.{argument_of}
 use Rattle.claim_trees.specs.Onto.{payload_length}
 use Rattle.claim_trees.specs.Size.{Size as Amount, size, within, payloads, ops_in, atts_in, bytes_in}
@@ -87,3 +87,18 @@ unfolding cap
 within_kept s i =
     limit_kept s.operations 1024 (omega arith) i
     && (limit_kept s.attestations 128 (omega arith) i && limit_kept s.bytes 32768 (omega arith) i)
+
+-- a size that was added up item by item
+pub counted : (m : List Att) (t : Tree) → cap (size_in (held m t)) ≡ of_node (held m t)
+counted m t = sym (node_counted (held m t))
+
+pub counted_within : (a b c : ℕ) (m : List Att) (t : Tree) → size a b c ≡ of_node (held m t)
+    → within (size a b c) ≡ within (size_in (held m t))
+counted_within a b c m t e = ap within (e ∙ node_counted (held m t)) ∙ within_kept (size_in (held m t))
+
+pub both_counted : (m n : List Att) (t u : Tree) → cap (size_in_both (held m t) (held n u)) ≡ of_node (union (held m t) (held n u))
+both_counted m n t u = sym (union_counted (held m t) (held n u))
+
+pub both_within : (a b c : ℕ) (m n : List Att) (t u : Tree) → size a b c ≡ of_node (union (held m t) (held n u))
+    → within (size a b c) ≡ within (size_in_both (held m t) (held n u))
+both_within a b c m n t u e = ap within (e ∙ union_counted (held m t) (held n u)) ∙ within_kept (size_in_both (held m t) (held n u))

@@ -27,6 +27,7 @@ pub struct Size {
 }
 
 // The size of what a node holds.
+#[tactic(auto, using(crate::proofs::Capped::counted, crate::proofs::Capped::counted_within))]
 pub fn size_of(n: &Node) -> Size
     ensures size { amount result ≡ cap (size_in (node n.now)) }
     ensures limits { within_limits (amount result) ≡ within_limits (size_in (node n.now)) }
@@ -35,6 +36,7 @@ pub fn size_of(n: &Node) -> Size
 }
 
 // The size of the union, what both hold counted once.
+#[tactic(auto, using(crate::proofs::Capped::both_counted, crate::proofs::Capped::both_within))]
 pub fn size_of_both(x: &Node, y: &Node) -> Size
     ensures size { amount result ≡ cap (size_in_both (node x.now) (node y.now)) }
     ensures limits { within_limits (amount result) ≡ within_limits (size_in_both (node x.now) (node y.now)) }

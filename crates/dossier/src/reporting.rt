@@ -65,7 +65,7 @@ fn row_in<J: Judge>(
     let Some(about) = held else {
         return Err(Refusal::NoRow);
     };
-    row_of(judge, about, k, area).ok_or(Refusal::NoRow)
+    row_of(judge, about.lent(), k, area).ok_or(Refusal::NoRow)
 }
 
 pub(crate) fn tally<J: Judge>(
@@ -84,5 +84,5 @@ fn tally_in<J: Judge>(held: &Option<About>, judge: &J, area: &mut Area) -> Tally
     let Some(about) = held else {
         return Tally::default();
     };
-    tally_of(judge, about, area)
+    tally_of(judge, about.lent(), area)
 }

@@ -60,7 +60,7 @@ fn due<J: Judge>(held: &Option<About>, judge: &J, area: &mut Area) -> usize
 {
     match held {
         None => last_length(&Tally::default()),
-        Some(about) => sheet_length(judge, about, area),
+        Some(about) => sheet_length(judge, about.lent(), area),
     }
 }
 
@@ -71,7 +71,7 @@ fn put<J: Judge>(held: &Option<About>, judge: &J, out: &mut [u8], area: &mut Are
 {
     match held {
         None => put_nothing(out),
-        Some(about) => put_sheet(judge, about, out, area),
+        Some(about) => put_sheet(judge, about.lent(), out, area),
     }
 }
 

@@ -1,3 +1,4 @@
 pub mod Larger
+pub mod Tags
 pub mod Steps
 pub mod Wholes

@@ -7,12 +7,26 @@ use Rattle.claim_trees.specs.Tree.{Held}
 use Rattle.claim_trees.specs.Union.{union}
 use Rattle.claim_trees.specs.Gathered.{gathered}
 use Rattle.proof.specs.declared.fault.Fault.{Fault}
+use Rattle.proof.specs.declared.item.Content.{Content}
+use Rattle.proof.specs.declared.item.Content.TheVariants.{Pending, Bitcoin, Unknown}
+use Rattle.proof.specs.declared.item.Item.{Item}
+use Rattle.proof.specs.declared.item.Item.TheVariants.{Operation, Attestation}
 use Rattle.proof.specs.Faults.{numbered}
 use Rattle.claims.specs.declared.tree.Node.{Node}
 use Rattle.claims.specs.Models.{node}
 use Rattle.gather.specs.declared.trouble.Trouble.{Trouble}
 use Rattle.gather.specs.declared.trouble.Trouble.TheVariants.{File, Memory, Large}
 use Rattle.gather.specs.Trees.{Says, Refused, Fails, fitting}
+
+-- a tag has eight bytes
+abbrev pub Tagged : Content → Type 0
+Tagged (Pending address) = Unit {0}
+Tagged (Bitcoin height) = Unit {0}
+Tagged (Unknown tag payload) = length tag.now ≡ 8
+
+abbrev pub TaggedItem : Item → Type 0
+TaggedItem (Operation kind argument offset first) = Unit {0}
+TaggedItem (Attestation content payload offset first) = Tagged content
 
 -- an item and the node below it where it is an operation
 unfoldable pub branch_at : ℕ → ℕ → List ℕ → ℕ → Outcome (List Claim)

@@ -1,7 +1,8 @@
 // Building the tree of a node from its items: each is a tree of its own, merged into those before it.
-ghost use Rattle.std.specs.Prelude.{◌≡◌, ℕ, ◌≤◌};
+ghost use Rattle.std.specs.Prelude.{◌≡◌, ℕ, ◌≤◌, true, false};
 ghost use Rattle.format.specs.Nodes.{node_at};
 ghost use Rattle.claims.specs.Models.{node as held};
+ghost use Rattle.gather.specs.Trees.{fitting};
 ghost use Rattle.gather.specs.Readings.{branch_at, Built, Joined};
 
 use crate::single::{blank, branch, mark};
@@ -40,10 +41,17 @@ pub(crate) fn read_node(reader: &mut Reader, heap: Global, above: Above) -> Resu
                 return Ok(node);
             }
         }
-        if !fits(&node) {
+        if large(&node) {
             return Err(Trouble::Large);
         }
     }
+}
+
+// Whether the node passes a limit.
+fn large(node: &Node) -> bool
+    ensures { result ≡ true → fitting (held node.now) ≡ false }
+{
+    !fits(node)
 }
 
 // The next item, merged into the node so far.

@@ -1,9 +1,10 @@
 // Nodes of nothing and of one item, with bytes of their own.
-ghost use Rattle.std.specs.Prelude.{◌≡◌, ℕ, [], ◌∷◌, IfOk};
+ghost use Rattle.std.specs.Prelude.{◌≡◌, ℕ, [], ◌∷◌, length, IfOk};
 ghost use Rattle.format.specs.Operations.{op_of};
 ghost use Rattle.claim_trees.specs.Tree.{end, more, held, blank as none};
 ghost use Rattle.proof.specs.Pieces.{attested};
 ghost use Rattle.claims.specs.Models.{op, att, node};
+ghost use Rattle.gather.specs.Readings.{Tagged};
 
 use claims::tree::{Attestation, Branch, Mark, Node, Operation};
 use format::Kind;
@@ -21,6 +22,7 @@ pub(crate) fn blank() -> Node
 
 // The node with this attestation alone.
 pub(crate) fn mark(heap: Global, content: Content) -> Result<Node, AllocError>
+    requires { Tagged content }
     ensures { IfOk result (λ n. node n ≡ held (attested content.entry ∷ []) end) }
 {
     let attestation = attestation(heap, content)?;
@@ -74,6 +76,7 @@ fn operation(heap: Global, kind: Kind, argument: &[u8]) -> Result<Operation, All
 }
 
 fn attestation(heap: Global, content: Content) -> Result<Attestation, AllocError>
+    requires { Tagged content }
     ensures { IfOk result (λ a. att a ≡ attested content.entry) }
 {
     match content {
@@ -81,7 +84,16 @@ fn attestation(heap: Global, content: Content) -> Result<Attestation, AllocError
         Content::Bitcoin(height) => Ok(Attestation::Bitcoin(height)),
         Content::Unknown { tag, payload } => {
             let payload = payload.to_vec(heap)?;
-            Ok(Attestation::Unknown { tag: *tag, payload })
+            let tag = eight(tag);
+            Ok(Attestation::Unknown { tag, payload })
         }
     }
+}
+
+// The eight bytes of a tag.
+fn eight(tag: &[u8]) -> [u8; 8]
+    requires { length tag.now ≡ 8 }
+    ensures { result ≡ tag.now }
+{
+    *tag.as_array().unwrap()
 }

@@ -3,22 +3,22 @@
 
 ghost use Rattle.std.specs.Prelude.{◌≡◌, ◌≤◌, length, drop};
 ghost use Rattle.runs.specs.Sheets.{sheet_in};
-ghost use Rattle.rows.specs.Models.{content_about};
+ghost use Rattle.rows.specs.Models.{content_lent};
 
 mod lines;
 
 use judge::judge::Judge;
 use lines::{lines_length, put_lines};
 use replay::ROOM;
-use rows::held::About;
+use rows::held::LentAbout;
 use rows::{Area, tally_of};
 use sheets::last::{last_length, put_last};
 use written::writer::Writer;
 
 // How long the sheet is. Its rows are worked in the first 4,096 bytes of the lent area.
-pub fn sheet_length<J: Judge>(judge: &J, about: &About, work: &mut [u8]) -> usize
+pub fn sheet_length<J: Judge>(judge: &J, about: LentAbout<'_>, work: &mut [u8]) -> usize
     requires { 4096 ≤ length work.old }
-    ensures value { result ≡ length (sheet_in (J.meaning judge.now) (content_about about.now)) }
+    ensures value { result ≡ length (sheet_in (J.meaning judge.now) (content_lent about.entry)) }
     ensures kept { drop 4096 work.new ≡ drop 4096 work.old }
 {
     let Some(area) = work.first_chunk_mut::<ROOM>() else {
@@ -28,10 +28,10 @@ pub fn sheet_length<J: Judge>(judge: &J, about: &About, work: &mut [u8]) -> usiz
 }
 
 // Writes the sheet into an area that is exactly as long, worked likewise.
-pub fn put_sheet<J: Judge>(judge: &J, about: &About, out: &mut [u8], work: &mut [u8])
+pub fn put_sheet<J: Judge>(judge: &J, about: LentAbout<'_>, out: &mut [u8], work: &mut [u8])
     requires lent { 4096 ≤ length work.old }
-    requires out_len { length out.old ≡ length (sheet_in (J.meaning judge.now) (content_about about.now)) }
-    ensures out { out.new ≡ sheet_in (J.meaning judge.now) (content_about about.now) }
+    requires out_len { length out.old ≡ length (sheet_in (J.meaning judge.now) (content_lent about)) }
+    ensures out { out.new ≡ sheet_in (J.meaning judge.now) (content_lent about.entry) }
     ensures kept { drop 4096 work.new ≡ drop 4096 work.old }
 {
     let Some(area) = work.first_chunk_mut::<ROOM>() else {
@@ -41,17 +41,17 @@ pub fn put_sheet<J: Judge>(judge: &J, about: &About, out: &mut [u8], work: &mut 
 }
 
 #[tactic(auto, using(crate::proofs::Listed::sheet_long))]
-fn length_in<J: Judge>(judge: &J, about: &About, area: &mut Area) -> usize
-    ensures { result ≡ length (sheet_in (J.meaning judge.now) (content_about about.now)) }
+fn length_in<J: Judge>(judge: &J, about: LentAbout<'_>, area: &mut Area) -> usize
+    ensures { result ≡ length (sheet_in (J.meaning judge.now) (content_lent about.entry)) }
 {
     let tally = tally_of(judge, about, area);
     lines_length(judge, about, area) + last_length(&tally)
 }
 
 #[tactic(auto, using(crate::proofs::Listed::sheet_long))]
-fn put_in<J: Judge>(judge: &J, about: &About, out: &mut [u8], area: &mut Area)
-    requires { length out.old ≡ length (sheet_in (J.meaning judge.now) (content_about about.now)) }
-    ensures { out.new ≡ sheet_in (J.meaning judge.now) (content_about about.now) }
+fn put_in<J: Judge>(judge: &J, about: LentAbout<'_>, out: &mut [u8], area: &mut Area)
+    requires { length out.old ≡ length (sheet_in (J.meaning judge.now) (content_lent about)) }
+    ensures { out.new ≡ sheet_in (J.meaning judge.now) (content_lent about.entry) }
 {
     let tally = tally_of(judge, about, area);
     let mut w = Writer::new(out);

@@ -3,12 +3,12 @@ ghost use Rattle.std.specs.Prelude.{◌≡◌, ◌+◌, ◌≤◌, ◌++◌, len
 ghost use Rattle.std.specs.List.{slice_get};
 ghost use Rattle.runs.specs.Reports.{rows_in};
 ghost use Rattle.runs.specs.Sheets.{line_of};
-ghost use Rattle.rows.specs.Models.{content_about};
+ghost use Rattle.rows.specs.Models.{content_lent};
 ghost use Rattle.listing.specs.Left.{lines_left};
 ghost use Rattle.written.specs.Writers.{written, HasRoom, Moved};
 
 use judge::judge::Judge;
-use rows::held::About;
+use rows::held::LentAbout;
 use rows::{Area, row_of};
 use runs::report::Row;
 use sheets::line::{line_length, put_line};
@@ -19,16 +19,16 @@ const ROWS: usize = 128;
 
 // Law: the line of a row that is there comes first of those that are left.
 // Kept: a fact as a function; tried as a lemma for the search in the loops below, and the proof didn't close.
-fn one_more<J: Judge>(judge: &J, about: &About, k: usize, row: &Row) -> u8
-    requires { Some row.now ≡ slice_get (rows_in (J.meaning judge.now) (content_about about.now)) k }
-    ensures { length (lines_left (J.meaning judge.now) (content_about about.now) k) ≡ length (line_of k row.now) + length (lines_left (J.meaning judge.now) (content_about about.now) (k + 1)) }
+fn one_more<J: Judge>(judge: &J, about: LentAbout<'_>, k: usize, row: &Row) -> u8
+    requires { Some row.now ≡ slice_get (rows_in (J.meaning judge.now) (content_lent about)) k }
+    ensures { length (lines_left (J.meaning judge.now) (content_lent about.entry) k) ≡ length (line_of k row.now) + length (lines_left (J.meaning judge.now) (content_lent about.entry) (k + 1)) }
 {
     0
 }
 
 // How long the lines are.
-pub(crate) fn lines_length<J: Judge>(judge: &J, about: &About, work: &mut Area) -> usize
-    ensures value { result ≡ length (lines_left (J.meaning judge.now) (content_about about.now) 0) }
+pub(crate) fn lines_length<J: Judge>(judge: &J, about: LentAbout<'_>, work: &mut Area) -> usize
+    ensures value { result ≡ length (lines_left (J.meaning judge.now) (content_lent about.entry) 0) }
     ensures bound { result ≤ 16384 }
 {
     let mut done = 0;
@@ -44,10 +44,15 @@ pub(crate) fn lines_length<J: Judge>(judge: &J, about: &About, work: &mut Area) 
 
 // Puts the lines.
 // Kept: a loop that measures and one that puts; one for both would be handed a closure that borrows the writer or counts, and be no plainer.
-pub(crate) fn put_lines<J: Judge>(judge: &J, about: &About, w: &mut Writer<'_>, work: &mut Area)
-    requires { HasRoom w.old (length (lines_left (J.meaning judge.now) (content_about about.now) 0)) }
-    ensures moved { Moved w.old w.new (length (lines_left (J.meaning judge.now) (content_about about.now) 0)) }
-    ensures front { written w.new ≡ written w.old ++ lines_left (J.meaning judge.now) (content_about about.now) 0 }
+pub(crate) fn put_lines<J: Judge>(
+    judge: &J,
+    about: LentAbout<'_>,
+    w: &mut Writer<'_>,
+    work: &mut Area,
+)
+    requires { HasRoom w.old (length (lines_left (J.meaning judge.now) (content_lent about) 0)) }
+    ensures moved { Moved w.old w.new (length (lines_left (J.meaning judge.now) (content_lent about.entry) 0)) }
+    ensures front { written w.new ≡ written w.old ++ lines_left (J.meaning judge.now) (content_lent about.entry) 0 }
 {
     for k in 0..ROWS {
         let Some(row) = row_of(judge, about, k, work) else {

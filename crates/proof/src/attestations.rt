@@ -88,13 +88,13 @@ impl<'a> Reader<'a> {
 pub fn is_bitcoin(tag: &[u8]) -> bool
     ensures { result ≡ same_bytes tag.now bitcoin_tag }
 {
-    tag == BITCOIN.as_slice()
+    same(tag, &BITCOIN)
 }
 
 pub fn is_pending(tag: &[u8]) -> bool
     ensures { result ≡ same_bytes tag.now pending_tag }
 {
-    tag == PENDING.as_slice()
+    same(tag, &PENDING)
 }
 
 // The height that the payload from first to end is.

@@ -24,5 +24,5 @@ pub enum Item<'a> {
 pub enum Content<'a> {
     Pending(&'a [u8]),
     Bitcoin(u32),
-    Unknown { tag: &'a [u8; 8], payload: &'a [u8] },
+    Unknown { tag: &'a [u8], payload: &'a [u8] },
 }

@@ -13,3 +13,11 @@ pub struct About {
     pub top: Node,
     pub ghost kept: { keeps_tree digest (node top) ≡ true },
 }
+
+// The same, lent: reading needs no more, so that who has only borrowed a tree can ask for its rows too.
+#[derive(Clone, Copy)]
+pub struct LentAbout<'a> {
+    pub digest: &'a [u8],
+    pub top: &'a Node,
+    pub ghost kept: { keeps_tree digest.now (node top.now) ≡ true },
+}

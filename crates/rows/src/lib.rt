@@ -4,17 +4,18 @@
 ghost use Rattle.std.specs.Prelude.{◌≡◌, ◌^◌, ◌<◌, ◌≤◌, length, drop};
 ghost use Rattle.std.specs.List.{slice_get};
 ghost use Rattle.runs.specs.Reports.{counted, rows_in, tally_in};
-ghost use Rattle.rows.specs.Models.{content_about};
+ghost use Rattle.rows.specs.Models.{content_lent};
 
 pub mod held;
 mod judging;
+mod lending;
 mod nodes;
 mod place;
 mod steps;
 mod tallies;
 mod walk;
 
-use held::About;
+use held::LentAbout;
 use judge::judge::Judge;
 use judge::verdict::Verdict;
 use judging::row_at;
@@ -28,9 +29,9 @@ use walk::place_of;
 pub type Area = [u8; ROOM];
 
 // The k-th row, or none. Its message is worked in the first 4,096 bytes of the lent area.
-pub fn row_of<J: Judge>(judge: &J, about: &About, k: usize, work: &mut [u8]) -> Option<Row>
+pub fn row_of<J: Judge>(judge: &J, about: LentAbout<'_>, k: usize, work: &mut [u8]) -> Option<Row>
     requires { 4096 ≤ length work.old }
-    ensures value { result ≡ slice_get (rows_in (J.meaning judge.now) (content_about about.now)) k }
+    ensures value { result ≡ slice_get (rows_in (J.meaning judge.now) (content_lent about.entry)) k }
     ensures kept { drop 4096 work.new ≡ drop 4096 work.old }
 {
     let Some(area) = work.first_chunk_mut::<ROOM>() else {
@@ -40,9 +41,9 @@ pub fn row_of<J: Judge>(judge: &J, about: &About, k: usize, work: &mut [u8]) -> 
 }
 
 // The tally of all rows, worked likewise.
-pub fn tally_of<J: Judge>(judge: &J, about: &About, work: &mut [u8]) -> Tally
+pub fn tally_of<J: Judge>(judge: &J, about: LentAbout<'_>, work: &mut [u8]) -> Tally
     requires { 4096 ≤ length work.old }
-    ensures value { result ≡ tally_in (J.meaning judge.now) (content_about about.now) }
+    ensures value { result ≡ tally_in (J.meaning judge.now) (content_lent about.entry) }
     ensures kept { drop 4096 work.new ≡ drop 4096 work.old }
 {
     let Some(area) = work.first_chunk_mut::<ROOM>() else {
@@ -51,18 +52,18 @@ pub fn tally_of<J: Judge>(judge: &J, about: &About, work: &mut [u8]) -> Tally
     tally_in(judge, about, area)
 }
 
-fn row_in<J: Judge>(judge: &J, about: &About, k: usize, area: &mut Area) -> Option<Row>
-    ensures { result ≡ slice_get (rows_in (J.meaning judge.now) (content_about about.now)) k }
+fn row_in<J: Judge>(judge: &J, about: LentAbout<'_>, k: usize, area: &mut Area) -> Option<Row>
+    ensures { result ≡ slice_get (rows_in (J.meaning judge.now) (content_lent about.entry)) k }
 {
     let place = place_of(about, k, area)?;
     Some(row_at(judge, place, area))
 }
 
-fn tally_in<J: Judge>(judge: &J, about: &About, area: &mut Area) -> Tally
-    ensures { result ≡ tally_in (J.meaning judge.now) (content_about about.now) }
+fn tally_in<J: Judge>(judge: &J, about: LentAbout<'_>, area: &mut Area) -> Tally
+    ensures { result ≡ tally_in (J.meaning judge.now) (content_lent about.entry) }
 {
     let mut tally = Tally::default();
-    for k in 0..count_node(&about.top) {
+    for k in 0..count_node(about.top) {
         let row = row_in(judge, about, k, area).unwrap();
         tally = counted(tally, k, row.verdict);
     }

@@ -7,11 +7,11 @@ ghost use Rattle.claim_trees.specs.Tree.{claims as listed};
 ghost use Rattle.claims.specs.Models.{node};
 ghost use Rattle.judge.specs.Meaning.{Meaning};
 ghost use Rattle.runs.specs.Reports.{rows_in};
-ghost use Rattle.rows.specs.Models.{content_about};
+ghost use Rattle.rows.specs.Models.{content_lent};
 ghost use Rattle.rows.specs.Places.{view, shown, row_in};
 
 use crate::Area;
-use crate::held::About;
+use crate::held::LentAbout;
 use crate::nodes::{count_marks, count_node, mark_at};
 use crate::place::Place;
 use crate::steps::step;
@@ -67,9 +67,9 @@ fn walk<'a>(top: &'a Node, row: usize, work: &mut Area, start: usize) -> Option<
 }
 
 // The k-th claim, from the digest on, which goes to the front of the area behind no other message.
-pub(crate) fn place_of<'a>(about: &'a About, k: usize, work: &mut Area) -> Option<Place<'a>>
-    ensures { (m : Meaning) → row_in m (view result work.new) ≡ slice_get (rows_in m (content_about about.now)) k }
+pub(crate) fn place_of<'a>(about: LentAbout<'a>, k: usize, work: &mut Area) -> Option<Place<'a>>
+    ensures { (m : Meaning) → row_in m (view result work.new) ≡ slice_get (rows_in m (content_lent about.entry)) k }
 {
-    let size = apply(Kind::Append, &about.digest, work, 0);
-    walk(&about.top, k, work, size)
+    let size = apply(Kind::Append, about.digest, work, 0);
+    walk(about.top, k, work, size)
 }

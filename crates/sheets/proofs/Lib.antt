@@ -1,3 +1,4 @@
 -- Lemmas that several answers rest on.
+pub mod Decimals
 pub mod Digits
 pub mod Lines

@@ -10,4 +10,5 @@ pub returns : goal.returns
 returns g c =
     let m = g.J.Judge.meaning c.args.judge.now in
     ap answered c.ok_or.ensures.value ∙ row_or c.row_of.result ∙ ap as_row c.row_of.ensures.value
+    ∙ ap (λ s. as_row (slice_get (rows_in m s) c.args.k)) c.lent.ensures
     ∙ sym (ap (λ h. as_row (slice_get (rows_in m (content_of h)) c.args.k)) c.in-Some.is)

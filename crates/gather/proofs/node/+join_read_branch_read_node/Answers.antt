@@ -6,7 +6,8 @@ use Rattle.claim_trees.specs.Gathered.{gathered}
 use Rattle.proof.specs.Pieces.{piece, attested}
 use Rattle.claims.specs.Models.{node}
 use Rattle.gather.specs.Trees.{fitting}
-use Rattle.gather.specs.Readings.{branch_at, Passes}
+use Rattle.gather.specs.Readings.{branch_at, TaggedItem, Passes}
+use Rattle.gather.proofs.Tags.{tagged}
 use Rattle.gather.proofs.Steps.{behind_none, more_on, branch_within, branch_on, branch_fault, branch_mark, branch_below, step_fault, step_last, step_more, step_passes, behind_passes, under_passes, stops_by, built_err, read_mark, read_under, joins, some_behind}
 use Rattle.gather.proofs.node.+join_read_branch_read_node.Goals as goal
 
@@ -16,6 +17,11 @@ read_branch-returns-in_err-content t c = record {
   reads = built_err _ c.from_residual.result _ _ c.from_residual.ensures.1
       (branch_fault c.args.above.depth c.args.above.size c.args.reader.now.file.now c.args.reader.now.at _ _ c.in_err-content.ensures.reads);
 }
+
+pub read_branch-mark-requires : goal.read_branch-mark-requires
+read_branch-mark-requires t c =
+    subst TaggedItem c.in-Attestation.is
+    (tagged _ c.args.above.depth c.args.above.size c.args.reader.now.file.now c.args.reader.now.at _ c.in_ok-content.ensures.reads)
 
 pub read_branch-returns-in_err-below-in-Operation : goal.read_branch-returns-in_err-below-in-Operation
 read_branch-returns-in_err-below-in-Operation t c =
@@ -114,11 +120,11 @@ read_node-items-preserved t c =
       (joins (node c.items.node) h.0 _ c.items.invariant.3 h.1.0.claims h.1.1 c.items.invariant.4.0 h.1.0.tree, sym k ∙ c.items.invariant.4.1),
     )
 
-pub read_node-returns-then-not-fits-clause-reads : goal.read_node-returns-then-not-fits-clause-reads
-read_node-returns-then-not-fits-clause-reads t c =
+pub read_node-returns-then-large-clause-reads : goal.read_node-returns-then-large-clause-reads
+read_node-returns-then-large-clause-reads t c =
     subst Passes c.items.invariant.4.1
     (behind_passes c.items.invariant.3 (node_at c.args.above.depth c.args.above.size c.args.reader.now.file.now c.items.reader.at)
-    (subst (λ z. fitting z ≡ false) c.items.invariant.4.0 (sym c.fits.ensures ∙ c.if-not-fits.true)))
+    (subst (λ z. fitting z ≡ false) c.items.invariant.4.0 (c.large.ensures c.if-large.true)))
 
 pub read_node-measured-smaller : goal.read_node-measured-smaller
 read_node-measured-smaller t c = omega arith

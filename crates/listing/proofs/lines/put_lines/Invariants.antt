@@ -1,5 +1,5 @@
 use Rattle.std.proofs.Common.{◌≡◌, ◌+◌, ◌++◌, length}
-use Rattle.rows.specs.Models.{content_about}
+use Rattle.rows.specs.Models.{content_lent}
 use Rattle.listing.specs.Left.{lines_left}
 use Rattle.written.specs.Writers.{written}
 use Rattle.listing.proofs.lines.put_lines.Given as goal
@@ -7,7 +7,7 @@ use Rattle.listing.proofs.lines.put_lines.Given as goal
 abbrev pub invariant-loop-k : goal.invariant-loop-k
 invariant-loop-k g l =
     let m = g.J.Judge.meaning l.judge in
-    let s = content_about l.about in
+    let s = content_lent l.about in
     (l.w.out.ghost_name ≡ l.fn.w.out.ghost_name)
     × (length l.w.out.now ≡ length l.fn.w.out.now)
     × (l.w.at + length (lines_left m s l.k) ≡ l.fn.w.at + length (lines_left m s 0))

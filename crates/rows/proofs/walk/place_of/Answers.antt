@@ -8,13 +8,13 @@ use Rattle.rows.proofs.walk.place_of.Goals as goal
 
 pub apply-size-requires : goal.apply-size-requires
 apply-size-requires c =
-    let w = walkable c.args.about.now.digest (node c.args.about.now.top) c.args.about.now.kept in
+    let w = walkable c.args.about.digest.now (node c.args.about.top.now) c.args.about.kept in
     (omega arith, (omega arith, omega (arith, w.digests)))
 
 pub walk-requires : goal.walk-requires
 walk-requires c =
-    let t = c.args.about.now.top in
-    let w = walkable c.args.about.now.digest (node t) c.args.about.now.kept in
+    let t = c.args.about.top.now in
+    let w = walkable c.args.about.digest.now (node t) c.args.about.kept in
     let l : c.apply-size.result ≡ 32 = omega (arith, w.digests, c.apply-size.ensures.value) in
     record {
       start = omega arith;
@@ -25,5 +25,5 @@ walk-requires c =
 
 pub returns : goal.returns
 returns c =
-    let t = c.args.about.now.top in
-    λ m. row_found m c.args.about.now.digest _ (claims (node t).marks (node t).branches) c.args.k _ c.walk.ensures c.apply-size.ensures.message
+    let t = c.args.about.top.now in
+    λ m. row_found m c.args.about.digest.now _ (claims (node t).marks (node t).branches) c.args.k _ c.walk.ensures c.apply-size.ensures.message
