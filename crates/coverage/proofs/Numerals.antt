@@ -21,14 +21,14 @@ numeral_tells bits ds e =
     let q = and_parts (all_ascii_digits ds) (ltb (digits_value 10 ds) (2 ^ bits)) p.1 in
     ((ltb-true 0 (length ds) p.0, own.to ds q.0), ltb-true (digits_value 10 ds) (2 ^ bits) q.1)
 
-decimal_reads : (bits : ℕ) (text : List ℕ) (n : ℕ) → (IsNumeral 10 (without_leading_plus text) × (digits_value 10 (without_leading_plus text) < 2 ^ bits)) × (n ≡ digits_value 10 (without_leading_plus text))
+pub decimal_reads : (bits : ℕ) (text : List ℕ) (n : ℕ) → (IsNumeral 10 (without_leading_plus text) × (digits_value 10 (without_leading_plus text) < 2 ^ bits)) × (n ≡ digits_value 10 (without_leading_plus text))
     → Some n ≡ decimal_read bits text
 unfolding decimal_read
 decimal_reads bits text n h =
     ap (λ (x : ℕ). Some x) h.1
     ∙ sym (cond-true (numeral bits (without_leading_plus text)) (Some (digits_value 10 (without_leading_plus text))) None (numeral_from bits (without_leading_plus text) h.0.0 h.0.1))
 
-decimal_none : (bits : ℕ) (text : List ℕ) → (IsNumeral 10 (without_leading_plus text) × (digits_value 10 (without_leading_plus text) < 2 ^ bits) → ⊥) → ◌≡◌ {A = Option ℕ} None (decimal_read bits text)
+pub decimal_none : (bits : ℕ) (text : List ℕ) → (IsNumeral 10 (without_leading_plus text) × (digits_value 10 (without_leading_plus text) < 2 ^ bits) → ⊥) → ◌≡◌ {A = Option ℕ} None (decimal_read bits text)
 unfolding decimal_read
 decimal_none bits text h =
     cond_both (numeral bits (without_leading_plus text)) (Some (digits_value 10 (without_leading_plus text))) None (λ (o : Option ℕ). ◌≡◌ {A = Option ℕ} None o)

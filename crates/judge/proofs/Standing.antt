@@ -7,7 +7,8 @@ use Rattle.std.proofs.lemmas.Bool.{and_parts, and_from, le-leb, lt-ltb, ltb-true
 use Rattle.format.specs.Outcome.{Outcome, got, fault}
 use Rattle.format.specs.Attestations.{same, bitcoin_tag, height_at}
 use Rattle.headers.specs.Headers.{header_at, root_of, time_of}
-use Rattle.headers.specs.Following.{covered_by}
+use Rattle.headers.specs.declared.ending.Run.{Run}
+use Rattle.headers.specs.Following.{run_of, covered_by}
 use Rattle.headers.proofs.Longest.{covered_good}
 use Rattle.headers.proofs.Passing.{header_chunk}
 use Rattle.judge.specs.Meaning.{Ruling, confirmed, rejected, ruled_by, Meaning}
@@ -76,3 +77,12 @@ stands base previous ceiling bytes =
     ap meant (fun_ext (λ tag. fun_ext (λ payload. fun_ext (λ message.
     by_front base n (length (take (80 * n) bytes) / 80) (take (80 * n) bytes) bytes message (height_at payload 0 (length payload)) e
     (header_of_front bytes n)))))
+
+-- the same by the run, which says how many are covered
+pub stands_run : (base : ℕ) (previous : List ℕ) (ceiling : ℕ) (bytes : List ℕ) (run : Run)
+    → run ≡ run_of base previous ceiling bytes
+    → standing base (take (80 * run.covered) bytes) ≡ header_meaning base previous ceiling bytes
+unfolding covered_by
+stands_run base previous ceiling bytes run e =
+    let n : run.covered ≡ covered_by base previous ceiling bytes = ap (λ r. r.covered) e in
+    ap (λ k. standing base (take (80 * k) bytes)) n ∙ stands base previous ceiling bytes

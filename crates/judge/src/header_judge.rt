@@ -22,6 +22,7 @@ pub struct HeaderJudge<'a> {
 
 impl<'a> HeaderJudge<'a> {
     // The headers in bytes, held to be of the chain.
+    #[tactic(auto, using(crate::proofs::Standing::stands_run))]
     pub fn new(chain: &Chain, bytes: &'a [u8]) -> HeaderJudge<'a>
         ensures means { standing result.base result.covered.now ≡ header_meaning chain.now.base chain.now.previous chain.now.ceiling bytes.now }
         ensures run { result.run ≡ run_of chain.now.base chain.now.previous chain.now.ceiling bytes.now }
@@ -43,6 +44,7 @@ impl<'a> HeaderJudge<'a> {
     }
 
     // What a message is that claims to be committed at a height.
+    #[tactic(auto, using(crate::proofs::Standing::ruled_among))]
     fn at(&self, height: u32, message: &[u8]) -> Verdict
         ensures { result ≡ spoken (ruled_at self.now.base (length self.now.covered.now / 80) self.now.covered.now message.now height) }
     {
