@@ -1,8 +1,7 @@
 // The words of a line.
-ghost use Rattle.std.specs.Prelude.{◌≡◌, length};
+ghost use Rattle.std.specs.Prelude.{◌≡◌, ℕ, ◌<◌, length};
+ghost use Rattle.account.specs.Commands.{word};
 ghost use Rattle.script.specs.Words.{words_of, word_at, Split, first_nine};
-
-use std::array;
 
 // One word more than a call has, so that a longer line shows.
 const MOST: usize = 9;
@@ -28,24 +27,22 @@ impl<'a> Words<'a> {
 pub fn split<'a>(text: &'a str) -> Words<'a>
     ensures { Split (words_of text.now) result }
 {
-    Words {
-        count: count(text),
-        first: array::from_fn(|k| word(text, k)),
+    let (count, first) = gone_over(text);
+    Words { count, first }
+}
+
+// How many words a line has, and the first nine, of which those that are not there are empty. The line is gone over once.
+fn gone_over<'a>(text: &'a str) -> (usize, [&'a str; MOST])
+    ensures count { result.0 ≡ length (words_of text.now) }
+    ensures first { (k : ℕ) → k < 9 → word result.1 k ≡ word_at k (words_of text.now) }
+{
+    let mut first = [""; MOST];
+    let mut count = 0;
+    for word in text.split(' ').filter(|word| !word.is_empty()) {
+        if count < MOST {
+            first[count] = word;
+        }
+        count += 1;
     }
-}
-
-// The word at a place; empty where there is none. A line is short, so each is looked for from the beginning.
-fn word<'a>(text: &'a str, k: usize) -> &'a str
-    ensures { result.now ≡ word_at k (words_of text.now) }
-{
-    text.split(' ')
-        .filter(|word| !word.is_empty())
-        .nth(k)
-        .unwrap_or("")
-}
-
-fn count(text: &str) -> usize
-    ensures { result ≡ length (words_of text.now) }
-{
-    text.split(' ').filter(|word| !word.is_empty()).count()
+    (count, first)
 }

@@ -5,10 +5,10 @@ use std::io::Read;
 use std::{fmt, fs, io};
 
 // One byte more than the longest proof, so that a longer file shows.
-pub const PROOF: u64 = 65537;
+pub const PROOF: usize = 65537;
 
 // One header more than a run may have, so that a longer file shows.
-pub const HEADERS: u64 = 65536 * 80 + 80;
+pub const HEADERS: usize = 65536 * 80 + 80;
 
 // An area that is large enough for every file and sheet; a larger one changes no answer.
 pub const AREA: usize = 65536;
@@ -44,14 +44,22 @@ pub fn refused(printed: anyhow::Result<()>) -> anyhow::Error {
 }
 
 // The file, or as many bytes of its beginning as are enough.
-pub fn read<'a>(rt: &HostRuntime, path: &'a str, enough: u64) -> Result<Vec<u8>, FileError<'a>> {
+pub fn read<'a>(rt: &HostRuntime, path: &'a str, enough: usize) -> Result<Vec<u8>, FileError<'a>> {
     beginning(rt, path, enough).map_err(|error| FileError::Unread(path, error))
 }
 
-fn beginning(rt: &HostRuntime, path: &str, enough: u64) -> io::Result<Vec<u8>> {
-    let mut bytes = Vec::new(rt.alloc());
-    fs::open(rt, path)?.take(enough).read_to_end(&mut bytes)?;
+// There is room from the first for one byte more than is read, so that no longer file makes the room grow; room that is not
+// filled is not touched.
+fn beginning(rt: &HostRuntime, path: &str, enough: usize) -> io::Result<Vec<u8>> {
+    let file = fs::open(rt, path)?;
+    let mut bytes = Vec::with_capacity(rt.alloc(), enough.saturating_add(1))?;
+    file.take(enough as u64).read_to_end(&mut bytes)?;
     Ok(bytes)
+}
+
+// The whole file, however long.
+pub fn whole<'a>(rt: &HostRuntime, path: &'a str) -> Result<Vec<u8>, FileError<'a>> {
+    fs::read(rt, path).map_err(|error| FileError::Unread(path, error))
 }
 
 // The proof at a path, or a message that it cannot be read.

@@ -1,5 +1,5 @@
 // The judge that a program was asked for, and the texts that it stands on.
-use crate::files::{FileError, HEADERS, read};
+use crate::files::{FileError, HEADERS, read, whole};
 use headers::chain::Chain;
 use judge::calendar_judge::CalendarJudge;
 use judge::choice::AnyJudge;
@@ -42,7 +42,7 @@ impl Texts {
         calendars: Option<&'a str>,
     ) -> Result<Texts, FileError<'a>> {
         let headers = headers.map(|path| read(rt, path, HEADERS)).transpose()?;
-        let calendars = calendars.map(|path| read(rt, path, u64::MAX)).transpose()?;
+        let calendars = calendars.map(|path| whole(rt, path)).transpose()?;
         Ok(Texts {
             headers: headers.map(|bytes| Headers { bytes, chain }),
             calendars,

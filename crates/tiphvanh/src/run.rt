@@ -1,4 +1,6 @@
 // The calls of a script, made line by line.
+ghost use Rattle.std.specs.Prelude.{◌<◌, ◌≤◌, length, IfOk};
+
 use crate::files::{AREA, FileError, PROOF, failed, read};
 use crate::judges::Texts;
 use crate::outputs::{put, taken};
@@ -16,13 +18,6 @@ use script::words::split;
 use std::alloc::{AllocError, Global};
 use std::fmt::Display;
 use std::{fs, mem};
-
-// A line of a script, and what it asks for.
-#[derive(Clone, Copy)]
-struct ScriptLine<'a> {
-    text: &'a str,
-    asks: Line<'a>,
-}
 
 // The dossier that the lines speak of, whether all went well, and whether files may be overwritten.
 #[derive(Drop)]
@@ -69,41 +64,39 @@ fn texts<'a>(rt: &HostRuntime, judges: &Judges<'a>) -> Result<Texts, FileError<'
 impl Run<'_> {
     // From one judge to the next, until no line is left.
     fn script(&mut self, script: &str) -> anyhow::Result<()> {
-        let lines: Vec<ScriptLine> = script
-            .lines()
-            .map(|text| ScriptLine {
-                text,
-                asks: parse(split(text).as_slice()),
-            })
-            .collect(self.rt.alloc())?;
+        let lines: Vec<&str> = script.lines().collect(self.rt.alloc())?;
         let mut texts = Texts::none();
-        for part in lines.chunk_by(|_, next| !matches!(next.asks, Line::Judge(_))) {
-            if let Some(named) = self.named(part)? {
-                texts = named;
-            }
+        // Kept: a place; a slice of the lines that are left was tried, and the borrow checker does not follow it around the loop.
+        let mut from = 0;
+        while from < lines.len() {
             let judge = texts.judge();
-            for line in part {
-                self.line(line.text, &line.asks, &judge)?;
+            let (named, gone) = self.under(&judge, &lines[from..])?;
+            from += gone;
+            if let Some(named) = named {
+                texts = named;
             }
         }
         Ok(())
     }
 
-    // The texts of the judge that the first line names.
-    fn named(&mut self, part: &[ScriptLine]) -> anyhow::Result<Option<Texts>> {
-        let [first, ..] = part else {
-            return Ok(None);
-        };
-        let Line::Judge(judges) = &first.asks else {
-            return Ok(None);
-        };
-        match texts(self.rt, judges) {
-            Ok(texts) => Ok(Some(texts)),
-            Err(_) => {
-                self.remark(first.text, Remark::Unread)?;
-                Ok(None)
+    // The lines under one judge, each read when its turn comes: the texts of the next judge that can be had, and how many
+    // lines that was. A judge goes through its headers when it is made, so a name that cannot be had leaves it be.
+    fn under(&mut self, judge: &AnyJudge, lines: &[&str]) -> anyhow::Result<(Option<Texts>, usize)>
+        ensures some { IfOk result (λ next. 0 < length lines.now → 0 < next.1) }
+        ensures within { IfOk result (λ next. next.1 ≤ length lines.now) }
+    {
+        for (place, text) in lines.iter().enumerate() {
+            let asks = parse(split(text).as_slice());
+            let Line::Judge(judges) = &asks else {
+                self.line(text, &asks, judge)?;
+                continue;
+            };
+            match texts(self.rt, judges) {
+                Ok(texts) => return Ok((Some(texts), place + 1)),
+                Err(_) => self.remark(text, Remark::Unread)?,
             }
         }
+        Ok((None, lines.len()))
     }
 
     // What is said of a line that is no call, or whose file cannot be had.
@@ -118,7 +111,7 @@ impl Run<'_> {
         Ok(())
     }
 
-    // One line, with the file that it names. One that names a judge has been heeded where its part begins.
+    // One line, with the file that it names. One that names a judge is heeded before.
     fn line(&mut self, text: &str, asks: &Line, judge: &AnyJudge) -> anyhow::Result<()> {
         match *asks {
             Line::Blank | Line::Judge(_) => Ok(()),
