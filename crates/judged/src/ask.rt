@@ -5,6 +5,11 @@ use judge::judge::Judge;
 use judge::verdict::Verdict;
 use std::io;
 
+// The tags as the format gives them, told apart from the code that is asked.
+pub const BITCOIN: [u8; 8] = [0x05, 0x88, 0x96, 0x0d, 0x73, 0xd7, 0x19, 0x01];
+
+pub const PENDING: [u8; 8] = [0x83, 0xdf, 0xe3, 0x0d, 0x2e, 0xf9, 0x0c, 0x8e];
+
 pub const UNKNOWN: [u8; 8] = [0x05, 0x88, 0x96, 0x0d, 0x73, 0xd7, 0x19, 0x02];
 
 pub fn print_text(rt: &HostRuntime, bytes: &[u8]) -> io::Result<()> {

@@ -1,6 +1,5 @@
 // The calendar judge on texts of addresses.
-use crate::ask::print_asked;
-use format::PENDING;
+use crate::ask::{PENDING, print_asked};
 use judge::calendar_judge::CalendarJudge;
 use std::{fs, io};
 

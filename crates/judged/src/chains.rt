@@ -1,11 +1,9 @@
 // The header judge on chains of headers.
 ghost use Rattle.std.specs.Prelude.{◌≡◌, ◌+◌, ◌/◌, ◌%◌, [], ◌∷◌};
 
-use crate::ask::{print_asked, print_verdict};
-use format::BITCOIN;
+use crate::ask::{BITCOIN, print_asked, print_verdict};
 use headers::chain::Chain;
 use headers::ending::Ending;
-use headers::header;
 use judge::header_judge::HeaderJudge;
 use judge::judge::Judge;
 use std::{fs, io};
@@ -62,13 +60,14 @@ fn padded(height: u32) -> [u8; 5]
     ]
 }
 
-// The root of the header at place k, or zeros where there is none.
+// The root of the header at place k, or zeros where there is none. Its bytes are picked here, and not by the code that is asked.
 fn root(bytes: &[u8], k: usize) -> [u8; 32] {
-    let (headers, _rest) = bytes.as_chunks();
-    match headers.get(k) {
-        Some(header) => *header::root(header),
-        None => [0; 32],
+    let mut root = [0; 32];
+    let (headers, _rest) = bytes.as_chunks::<80>();
+    if let Some(header) = headers.get(k) {
+        root.copy_from_slice(&header[36..68]);
     }
+    root
 }
 
 // The root with its first bit turned.

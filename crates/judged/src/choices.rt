@@ -1,8 +1,6 @@
 // Each judge that a program can choose, under a tag of each kind.
-use crate::ask::{UNKNOWN, print_verdict};
+use crate::ask::{BITCOIN, PENDING, UNKNOWN, print_verdict};
 use crate::chains::made;
-use format::{BITCOIN, PENDING};
-use headers::header;
 use judge::calendar_judge::CalendarJudge;
 use judge::choice::AnyJudge;
 use judge::header_judge::HeaderJudge;
@@ -59,13 +57,13 @@ fn print_judges<'x>(
 pub fn print_choices(rt: &HostRuntime) -> io::Result<()> {
     let bytes = fs::read(rt, "whole.bin")?;
     let text = fs::read(rt, "calendars.txt")?;
-    let (headers, _rest) = bytes.as_chunks();
+    let (headers, _rest) = bytes.as_chunks::<80>();
     if let Some(first) = headers.first() {
         print_judges(
             rt,
             HeaderJudge::new(&made(0), &bytes),
             CalendarJudge::new(&text),
-            header::root(first),
+            &first[36..68],
         )?;
     }
     Ok(())
